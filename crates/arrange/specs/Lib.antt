@@ -1,0 +1,4 @@
+-- What the contracts of this crate cite beside the definitions of `model`.
+pub mod Scores
+pub mod Walks
+pub mod Arranged

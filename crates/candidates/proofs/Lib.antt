@@ -1,0 +1,5 @@
+pub mod Repeats
+pub mod Pairs
+pub mod Weighing
+pub mod Rows
+pub mod Sides

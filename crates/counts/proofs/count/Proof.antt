@@ -1,0 +1,64 @@
+-- `counts::count` meets its contract.
+use Prim.Native.Nat.{_+_}
+use mathlib.Core.Path.{sym}
+use native.Mathlib.Omega.{arith}
+use lib.ListN.{length, replicate}
+use lib.Seq.{length-take-le}
+use Rattle.model.specs.Plan.{decode}
+use Rattle.model.specs.Region.{drained}
+use Rattle.words.specs.Gaps.{regionsOf}
+use Rattle.counts.proofs.Plans.{no-legs, counted}
+use borrow.Author.Needs.{needs}
+use Rattle.counts.proofs.count.Statement.{statement}
+use Rattle.counts.proofs.count.Tie as tie
+
+-- src/main.rt:24:13
+add-m : tie.Need-add-m
+add-m c = search needs
+
+-- src/main.rt:25:34
+slice-aggregate-arrange : tie.Need-slice-aggregate-arrange
+slice-aggregate-arrange c = search needs
+
+-- src/main.rt:25:70
+array-borrow-prefix-best : tie.Need-array-borrow-prefix-best
+array-borrow-prefix-best c = let z = c .before .before .before .pre .0 .sizes in omega (arith, z .vehicles, z .stops)
+
+-- src/main.rt:25:70
+slice-aggregate-arrange-2 : tie.Need-slice-aggregate-arrange-2
+slice-aggregate-arrange-2 c =
+    let s = c .before .before .before .before in
+    let z = s .pre .0 .sizes in
+    sym (length-take-le (s .args .v + s .args .n) (replicate 80 0) (omega (arith, z .vehicles, z .stops)))
+
+-- src/main.rt:25:9
+arrange-requires : tie.Need-arrange-requires
+arrange-requires c κs =
+    let s = c .before .before .before .before in
+    let z = s .pre .0 .sizes in (
+      record {
+        legs = no-legs;
+        prices = record { linear = omega arith; quadratic = omega arith; missed = omega arith };
+        gapped = s .pre .0;
+        few = s .pre .1;
+      },
+      length-take-le (s .args .v + s .args .n) (replicate 80 0) (omega (arith, z .vehicles, z .stops)),
+    )
+
+-- src/main.rt:13:1
+returns : tie.Need-returns
+returns c =
+    let s = c .before .before .before .before .before .before in
+    counted (c .before .arrange .result .count) (length (regionsOf (s .args .regions .now))) (drained (decode (s .args .v) (s .args .plan .now)) (regionsOf (s .args .regions .now)))
+    (c .before .arrange .ensures .count)
+
+pub count-spec : {M : Type 1} → statement M
+count-spec =
+    tie.close
+    (tie.spec
+    add-m
+    slice-aggregate-arrange
+    array-borrow-prefix-best
+    slice-aggregate-arrange-2
+    arrange-requires
+    returns)

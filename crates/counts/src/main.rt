@@ -1,0 +1,50 @@
+// Prints the numbers of arrangements that the walk counts: of 7 stops in one gap, of 6 in two gaps, and of 6 on three vehicles.
+ghost use mathlib.Core.Path.{_≡_};
+ghost use Prim.Native.Nat.{_≤_};
+ghost use lib.ListN.{length};
+ghost use Rattle.model.specs.Plan.{decode};
+ghost use Rattle.model.specs.Region.{drained};
+ghost use Rattle.words.specs.Words.{arrangementCount};
+ghost use Rattle.words.specs.Gaps.{regionsOf, Gapped};
+use libc::STDOUT_FILENO;
+use model::Prices;
+
+// The number of arrangements of a plan's regions. All legs are 0 metres long, and nothing has a price.
+fn count(v: usize, n: usize, plan: &[u32], regions: &[u32]) -> u64
+    requires { ⌜ Gapped v n (now plan) (now regions) × (length (drained (decode v (now plan)) (regionsOf (now regions))) ≤ 7) ⌝ }
+    ensures { λ r. ⌜ r ≡ arrangementCount (length (regionsOf (now (regions .entry)))) (length (drained (decode v (now (plan .entry))) (regionsOf (now (regions .entry))))) ⌝ }
+{
+    let legs = [0u32; 6400];
+    let prices = Prices {
+        linear: 0,
+        quadratic: 0,
+        missed: 0,
+    };
+    let mut best = [0u32; 80];
+    let m = v + n;
+    let found = arrange::arrange(&legs, v, n, prices, plan, regions, &mut best[..m]);
+    found.count
+}
+
+fn main() {
+    io::print_decimal(
+        STDOUT_FILENO,
+        count(1, 7, &[7, 0, 1, 2, 3, 4, 5, 6], &[0, 0, 7]),
+    );
+    io::write_all(STDOUT_FILENO, b"\n");
+    io::print_decimal(
+        STDOUT_FILENO,
+        count(2, 6, &[6, 0, 0, 1, 2, 3, 4, 5], &[0, 0, 6, 1, 0, 0]),
+    );
+    io::write_all(STDOUT_FILENO, b"\n");
+    io::print_decimal(
+        STDOUT_FILENO,
+        count(
+            3,
+            6,
+            &[6, 0, 0, 0, 1, 2, 3, 4, 5],
+            &[0, 0, 6, 1, 0, 0, 2, 0, 0],
+        ),
+    );
+    io::write_all(STDOUT_FILENO, b"\n");
+}

@@ -1,0 +1,3 @@
+pub mod Arranging
+pub mod Writing
+pub mod Outcome

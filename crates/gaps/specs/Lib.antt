@@ -1,0 +1,5 @@
+-- What the contracts of this crate and of the walk cite beside the definitions of `model`.
+pub mod Ways
+pub mod Stands
+pub mod Here
+pub mod Sets

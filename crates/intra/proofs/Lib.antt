@@ -1,0 +1,4 @@
+pub mod Laws
+pub mod Choice
+pub mod InPlace
+pub mod OnRoute

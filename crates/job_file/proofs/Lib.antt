@@ -1,0 +1,7 @@
+pub mod Checks
+pub mod Fills
+pub mod First
+pub mod Counted
+pub mod Checked
+pub mod Loading
+pub mod Answers

@@ -1,0 +1,125 @@
+-- The public calls: what each answers and what it leaves in the lent plan, for refused and accepted arguments alike.
+use Prim.Native.Nat.{ℕ, zero, suc}
+use mathlib.Core.Bool.{Bool, true, false, cond, _&&_, _||_, not}
+use mathlib.Core.List.{List, [], _∷_}
+use lib.Dec.{leb}
+use lib.ListN.{length, getD}
+use Rattle.model.specs.declared.Totals.{Totals}
+use Rattle.model.specs.declared.Weighed.{Weighed}
+use Rattle.model.specs.declared.Weighed.the-variants as W
+use Rattle.model.specs.declared.Written.{Written}
+use Rattle.model.specs.declared.Written.the-variants as D
+use Rattle.model.specs.declared.Solved.{Solved}
+use Rattle.model.specs.declared.Solved.the-variants as S
+use Rattle.model.specs.Whole.{whole, amount}
+use Rattle.model.specs.Job.{Job, vehicleCount, stopCount}
+use Rattle.model.specs.Plan.{Plan, encode, decode}
+use Rattle.model.specs.Cost.{cost}
+use Rattle.model.specs.Nearest.{startPlan}
+use Rattle.model.specs.TwoOpt.{twoOpt}
+use Rattle.model.specs.Rebuild.{rebuild, exhaustive, pruned}
+use Rattle.model.specs.Run.{Task, State, Round, startState, rounds, lastState, ends}
+use Rattle.model.specs.Refusals.{Arguments, Call, Weigh, StartPlan, TwoOpt, Rebuild, Exhaustive, Pruned, Solve, refusal}
+
+-- ---- a run
+
+abbrev pub taskOf : Arguments → Task
+taskOf A = record { job = A .job; smoothing = A .smoothing; limit = A .limit; draws = A .draws }
+
+-- v = 0, or n below 2: no rounds
+abbrev pub hasRounds : Job → Bool
+hasRounds J = leb 1 (vehicleCount J) && leb 2 (stopCount J)
+
+-- the rounds of a task from the start plan on, where it has rounds
+unfoldable pub roundsIf : Bool → Task → List Round
+roundsIf false T = []
+roundsIf true T = rounds (T .limit) false T (startState T)
+
+abbrev pub roundsOf : Task → List Round
+roundsOf T = roundsIf (hasRounds (T .job)) T
+
+-- what the run leaves
+abbrev pub finalState : Task → State
+finalState T = lastState (startState T) (roundsOf T)
+
+-- start cost, end cost, rounds, improving rounds, settled (as is a run without rounds) or cut
+unfoldable pub totals : Task → Totals
+totals T =
+    record {
+      start = whole (cost (T .job) (startPlan (T .job)));
+      end = whole (cost (T .job) (finalState T .plan));
+      rounds = length (roundsOf T);
+      improving = finalState T .improving;
+      settled = not (hasRounds (T .job)) || ends (finalState T);
+    }
+
+-- ---- the plan that a call leaves
+
+-- the plan that was lent
+abbrev pub lentPlan : Arguments → Plan
+lentPlan A = decode (vehicleCount (A .job)) (A .plan)
+
+-- what an accepted call makes of its arguments
+unfoldable pub made : Call → Arguments → Plan
+made Weigh A = lentPlan A
+made StartPlan A = startPlan (A .job)
+made TwoOpt A = twoOpt (A .job) (lentPlan A) (getD (A .given) 0 0) (getD (A .given) 1 0)
+made Rebuild A = rebuild (A .job) (lentPlan A) (A .given)
+made Exhaustive A = exhaustive (A .job)
+made Pruned A = pruned (A .job)
+made Solve A = finalState (taskOf A) .plan
+
+-- refused (by a number above 0): as it was lent; accepted: the lent form of the new plan
+abbrev pub leftBy : ℕ → Arguments → Plan → List ℕ
+leftBy zero A P = encode (stopCount (A .job)) P
+leftBy (suc k) A P = A .plan
+
+-- the lent plan at exit
+unfoldable pub planLeft : Call → Arguments → List ℕ
+planLeft c A = leftBy (refusal c A) A (made c A)
+
+-- ---- the answers
+
+abbrev pub weighed : ℕ → ℕ → Weighed
+weighed zero c = W.Cost (whole c)
+weighed (suc k) c = W.Refused (suc k)
+
+abbrev pub written : ℕ → Written
+written zero = D.Done
+written (suc k) = D.Refused (suc k)
+
+abbrev pub solved : ℕ → Totals → Solved
+solved zero t = S.Ran t
+solved (suc k) t = S.Refused (suc k)
+
+-- of weigh, two_opt, rebuild, exhaustive and pruned: the cost of the plan that is left
+unfoldable pub costAnswer : Call → Arguments → Weighed
+costAnswer c A = weighed (refusal c A) (cost (A .job) (made c A))
+
+-- of start_plan
+unfoldable pub startAnswer : Arguments → Written
+startAnswer A = written (refusal StartPlan A)
+
+-- of solve
+unfoldable pub solveAnswer : Arguments → Solved
+solveAnswer A = solved (refusal Solve A) (totals (taskOf A))
+
+-- ---- 01's number and values for each case of an answer: 0 where it is accepted, and then its values
+
+pub record Said : Type 0 where
+  pub number : ℕ
+  pub values : List ℕ
+
+unfoldable pub saidByWeighed : Weighed → Said
+saidByWeighed (W.Refused k) = record { number = k; values = [] }
+saidByWeighed (W.Cost c) = record { number = 0; values = amount c ∷ [] }
+
+unfoldable pub saidByWritten : Written → Said
+saidByWritten (D.Refused k) = record { number = k; values = [] }
+saidByWritten D.Done = record { number = 0; values = [] }
+
+-- start cost, end cost, rounds, improving rounds, 1 for settled or 0 for cut
+unfoldable pub saidBySolved : Solved → Said
+saidBySolved (S.Refused k) = record { number = k; values = [] }
+saidBySolved (S.Ran t) =
+    record { number = 0; values = amount (t .start) ∷ amount (t .end) ∷ t .rounds ∷ t .improving ∷ cond (t .settled) 1 0 ∷ [] }

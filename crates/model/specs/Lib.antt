@@ -1,0 +1,20 @@
+-- What the planner computes, as definitions on numbers and lists. Each is a sentence of the specification, 01, and every contract cites these.
+-- Read them in this order.
+pub mod Lists
+pub mod Whole
+pub mod Job
+pub mod Plan
+pub mod StopSet
+pub mod Cost
+pub mod Legs
+pub mod Nearest
+pub mod TwoOpt
+pub mod Region
+pub mod Rebuild
+pub mod Settle
+pub mod Run
+pub mod Refusals
+pub mod Calls
+pub mod File
+pub mod Promise
+pub mod Sums

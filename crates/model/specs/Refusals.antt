@@ -1,0 +1,135 @@
+-- 01, "Who can stop a call": the condition of each number, one table with the order in which they are tested, and which calls test which.
+-- (14 is found while reading a file: see File.)
+use Prim.Native.Nat.{ℕ, _+_, _*_, _%_}
+use mathlib.Core.Bool.{Bool, true, false, cond, _&&_, _||_, not}
+use mathlib.Core.List.{List, [], _∷_}
+use lib.Dec.{eqb, ltb, leb}
+use lib.ListN.{length}
+use Rattle.model.specs.declared.Prices.{Prices}
+use Rattle.model.specs.Lists.{member, allBelow, allOnce}
+use Rattle.model.specs.Job.{Job, vehicleCount, stopCount}
+use Rattle.model.specs.Plan.{isPlan}
+
+-- What a call is given. Where a call has no such argument the list is empty or the number 0, and the call does not test it.
+pub record Arguments : Type 0 where
+  pub job : Job
+  pub plan : List ℕ
+  pub smoothing : ℕ
+  pub limit : ℕ
+  pub draws : List ℕ
+  pub given : List ℕ
+
+-- the arguments of a call that runs no rounds
+abbrev pub asking : Job → List ℕ → List ℕ → Arguments
+asking J plan given = record { job = J; plan = plan; smoothing = 0; limit = 0; draws = []; given = given }
+
+-- the public calls
+pub data Call : Type 0 where
+  Weigh : Call
+  StartPlan : Call
+  TwoOpt : Call
+  Rebuild : Call
+  Exhaustive : Call
+  Pruned : Call
+  Solve : Call
+
+-- x is from a to b
+abbrev pub within : ℕ → ℕ → ℕ → Bool
+within a b x = leb a x && leb x b
+
+-- ---- the conditions
+
+-- 1: vehicle list odd or over 32 long
+unfoldable pub badVehicles : List ℕ → Bool
+badVehicles vs = eqb (length vs % 2) 1 || ltb 32 (length vs)
+
+-- 2: stop list over 64
+unfoldable pub badStops : List ℕ → Bool
+badStops ss = ltb 64 (length ss)
+
+-- 3: l over 80 or table not l × l
+unfoldable pub badTable : ℕ → List ℕ → Bool
+badTable l ds = ltb 80 l || not (eqb (length ds) (l * l))
+
+-- 4: plan not v + n long
+unfoldable pub badLength : ℕ → ℕ → List ℕ → Bool
+badLength v n plan = not (eqb (length plan) (v + n))
+
+-- 5: draw list outside 1 to 1,024
+unfoldable pub badDraws : List ℕ → Bool
+badDraws ds = not (within 1 1024 (length ds))
+
+-- 6: location number not below l
+unfoldable pub badLocations : List ℕ → List ℕ → ℕ → Bool
+badLocations vs ss l = not (allBelow l vs && allBelow l ss)
+
+-- 7: distance over 200,000
+unfoldable pub badDistances : List ℕ → Bool
+badDistances ds = not (allBelow 200001 ds)
+
+-- 8: w, q or M over its limit
+unfoldable pub badPrices : Prices → Bool
+badPrices p = ltb 1000000 (p .linear) || (ltb 16 (p .quadratic) || ltb 10000000000000 (p .missed))
+
+-- 9: c outside 1 to 1,000
+unfoldable pub badSmoothing : ℕ → Bool
+badSmoothing c = not (within 1 1000 c)
+
+-- 10: round limit outside 1 to 1,000,000
+unfoldable pub badLimit : ℕ → Bool
+badLimit limit = not (within 1 1000000 limit)
+
+-- 11: given plan not in plan form, or a stop twice
+unfoldable pub badPlan : ℕ → ℕ → List ℕ → Bool
+badPlan v n plan = not (isPlan v n plan)
+
+-- 12: given stops not below n, equal, or not one or two (the pair's call always has two)
+unfoldable pub badGiven : ℕ → List ℕ → Bool
+badGiven n given = not (allBelow n given && (allOnce given && within 1 2 (length given)))
+
+-- 13: over 6 stops or 3 vehicles
+unfoldable pub tooLarge : ℕ → ℕ → Bool
+tooLarge v n = ltb 6 n || ltb 3 v
+
+-- ---- the table
+
+pub record Test : Type 0 where
+  pub number : ℕ
+  pub applies : Arguments → Bool
+
+-- the numbers in the order in which they are tested
+abbrev pub tests : List Test
+tests =
+    record { number = 1; applies = λ A. badVehicles (A .job .vehicles) }
+    ∷ record { number = 2; applies = λ A. badStops (A .job .stops) }
+    ∷ record { number = 3; applies = λ A. badTable (A .job .locations) (A .job .distances) }
+    ∷ record { number = 4; applies = λ A. badLength (vehicleCount (A .job)) (stopCount (A .job)) (A .plan) }
+    ∷ record { number = 5; applies = λ A. badDraws (A .draws) }
+    ∷ record { number = 6; applies = λ A. badLocations (A .job .vehicles) (A .job .stops) (A .job .locations) }
+    ∷ record { number = 7; applies = λ A. badDistances (A .job .distances) }
+    ∷ record { number = 8; applies = λ A. badPrices (A .job .prices) }
+    ∷ record { number = 9; applies = λ A. badSmoothing (A .smoothing) }
+    ∷ record { number = 10; applies = λ A. badLimit (A .limit) }
+    ∷ record { number = 11; applies = λ A. badPlan (vehicleCount (A .job)) (stopCount (A .job)) (A .plan) }
+    ∷ record { number = 12; applies = λ A. badGiven (stopCount (A .job)) (A .given) }
+    ∷ record { number = 13; applies = λ A. tooLarge (vehicleCount (A .job)) (stopCount (A .job)) }
+    ∷ []
+
+-- the numbers that a call can give: those that speak of an argument it has
+abbrev pub asked : Call → List ℕ
+asked Weigh = 1 ∷ 2 ∷ 3 ∷ 4 ∷ 6 ∷ 7 ∷ 8 ∷ 11 ∷ []
+asked StartPlan = 1 ∷ 2 ∷ 3 ∷ 4 ∷ 6 ∷ 7 ∷ []
+asked TwoOpt = 1 ∷ 2 ∷ 3 ∷ 4 ∷ 6 ∷ 7 ∷ 8 ∷ 11 ∷ 12 ∷ []
+asked Rebuild = 1 ∷ 2 ∷ 3 ∷ 4 ∷ 6 ∷ 7 ∷ 8 ∷ 11 ∷ 12 ∷ []
+asked Exhaustive = 1 ∷ 2 ∷ 3 ∷ 4 ∷ 6 ∷ 7 ∷ 8 ∷ 13 ∷ []
+asked Pruned = 1 ∷ 2 ∷ 3 ∷ 4 ∷ 6 ∷ 7 ∷ 8 ∷ 13 ∷ []
+asked Solve = 1 ∷ 2 ∷ 3 ∷ 4 ∷ 5 ∷ 6 ∷ 7 ∷ 8 ∷ 9 ∷ 10 ∷ []
+
+-- the first of some tests that the call makes and that applies; 0 where there is none
+abbrev pub firstOf : Call → Arguments → List Test → ℕ
+firstOf c A [] = 0
+firstOf c A (t ∷ ts) = cond (member (t .number) (asked c) && t .applies A) (t .number) (firstOf c A ts)
+
+-- the number that a call is refused with; 0 where it is accepted
+unfoldable pub refusal : Call → Arguments → ℕ
+refusal c A = firstOf c A tests

@@ -1,0 +1,42 @@
+// The plain data that the other crates share, so that their code and the definitions of specs/ speak of the same values.
+
+// The prices of a job: for each metre of a route, for its square, and for each stop that is not on a route.
+pub struct Prices {
+    pub linear: u32,
+    pub quadratic: u32,
+    pub missed: u64,
+}
+
+// The two moving averages of a run: of the gain per round, and of the gain per improving round.
+pub struct Averages {
+    pub delta: f64,
+    pub update: f64,
+}
+
+// What a run answers: the cost of its start plan and of the plan it left, its rounds, the improving ones among them,
+// and whether it settled (else the round limit cut it).
+pub struct Totals {
+    pub start: f64,
+    pub end: f64,
+    pub rounds: u32,
+    pub improving: u32,
+    pub settled: bool,
+}
+
+// The answer of a call that gives a cost.
+pub enum Weighed {
+    Refused(u32),
+    Cost(f64),
+}
+
+// The answer of a call that only writes a plan.
+pub enum Written {
+    Refused(u32),
+    Done,
+}
+
+// The answer of a run.
+pub enum Solved {
+    Refused(u32),
+    Ran(Totals),
+}

@@ -1,0 +1,4 @@
+pub mod Passed
+pub mod Answers
+pub mod Pair
+pub mod Solving

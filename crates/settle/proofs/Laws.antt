@@ -1,0 +1,54 @@
+-- The definitions case by case: what the functions of src/ return, and what the proofs about runs go by.
+use mathlib.Core.Path.{_≡_, refl, sym, ap, ap₂, _∙_}
+use mathlib.Core.Bool.{Bool, false, cond, _&&_}
+use Prim.Native.Nat.{ℕ, _-_, _≤_, _<_}
+use native.Mathlib.Nat.{le-trans}
+use lib.Dec.{ltb}
+use lib.Ieee.{Float, binary64, ofBits, round, add, sub, mul, div, eq, lt, le}
+use borrow.Author.Tests.{le-leb, lt-leb}
+use Rattle.model.specs.declared.Averages.{Averages}
+use Rattle.model.specs.Whole.{whole, exact}
+use Rattle.model.specs.Settle.{average, averaged, ratio, settles}
+use Rattle.whole.proofs.Laws.{lt-whole, sub-whole}
+
+-- ---- the average: the new value where the old one is 0, and else the weighted one
+pub weighed : (c : ℕ) (old new : Float) (b : Bool) → eq old (whole 0) ≡ b
+    → average c old new ≡ cond b new (div binary64 (add binary64 (mul binary64 old (whole (c - 1))) new) (whole c))
+unfolding average
+weighed c old new b t = ap (λ (x : Bool). cond x new (div binary64 (add binary64 (mul binary64 old (whole (c - 1))) new) (whole c))) t
+
+-- ---- both averages after a round whose gain is d
+abbrev pub both : Float → Float → Averages
+both x y = record { delta = x; update = y }
+
+abbrev pub moved : ℕ → Averages → Float → Bool → Averages
+moved c a d improves = both (average c (a .delta) d) (cond improves (average c (a .update) d) (a .update))
+
+pub averaged-moved : (c : ℕ) (a : Averages) (m k : ℕ) → averaged c a m k ≡ moved c a (sub binary64 (whole m) (whole k)) (ltb k m)
+unfolding averaged
+averaged-moved c a m k = refl
+
+-- on floats that are whole numbers
+pub rounded : (c : ℕ) (a : Averages) (old new : Float) (b : Bool) (m k : ℕ) → lt new old ≡ b → m ≤ exact → k ≤ exact → old ≡ whole m → new ≡ whole k
+    → averaged c a m k ≡ moved c a (sub binary64 old new) b
+rounded c a old new b m k t M K p q =
+    averaged-moved c a m k
+    ∙ ap₂ (moved c a) (ap₂ (sub binary64) (sym p) (sym q)) (sym (lt-whole k m K M) ∙ ap₂ lt (sym q) (sym p) ∙ t)
+
+-- the gain as a whole number
+pub gained : (c : ℕ) (a : Averages) (m k : ℕ) → m ≤ exact → k ≤ m → averaged c a m k ≡ moved c a (whole (m - k)) (ltb k m)
+gained c a m k M K = averaged-moved c a m k ∙ ap (λ (d : Float). moved c a d (ltb k m)) (sub-whole m k M (le-trans K M) K)
+
+-- ---- the rule
+-- the literal 0.01
+pub ratio-literal : ofBits binary64 0x3f84_7ae1_47ae_147b ≡ ratio
+unfolding ofBits ratio round
+ratio-literal = refl
+
+pub early : (rounds : ℕ) (a : Averages) → rounds < 10 → settles rounds a ≡ false
+unfolding settles
+early rounds a h = ap (λ (t : Bool). t && le (a .delta) (mul binary64 (a .update) ratio)) (lt-leb 10 rounds h)
+
+pub late : (rounds : ℕ) (a : Averages) → 10 ≤ rounds → settles rounds a ≡ le (a .delta) (mul binary64 (a .update) ratio)
+unfolding settles
+late rounds a h = ap (λ (t : Bool). t && le (a .delta) (mul binary64 (a .update) ratio)) (le-leb 10 rounds h)

@@ -1,0 +1,12 @@
+-- `settle::none` returns two literals, which are 0.
+use mathlib.Core.Path.{refl}
+use lib.Ieee.{ofBits}
+use Rattle.settle.proofs.none.Statement.{statement}
+use Rattle.settle.proofs.none.Tie as tie
+
+returns : tie.Need-returns
+unfolding ofBits
+returns c = refl
+
+pub none-spec : {M : Type 1} → statement M
+none-spec = tie.close (tie.spec returns)

@@ -1,0 +1,52 @@
+-- What is printed for the answer of a single call, and the plan that it leaves.
+use Prim.Native.Nat.{ℕ, _+_, _*_, _≤_}
+use mathlib.Core.Path.{_≡_}
+use mathlib.Core.List.{List, _++_}
+use lib.Ieee.{Float}
+use lib.ListN.{length}
+use Rattle.model.specs.declared.Weighed.{Weighed}
+use Rattle.model.specs.declared.Weighed.the-variants as W
+use Rattle.model.specs.declared.Written.{Written}
+use Rattle.model.specs.declared.Written.the-variants as D
+use Rattle.model.specs.declared.Solved.{Solved}
+use Rattle.model.specs.declared.Solved.the-variants as S
+use Rattle.model.specs.Whole.{IsWhole}
+use Rattle.model.specs.File.{line, printedRefusal}
+use Rattle.printing.specs.Printing.{printedCost, printedTotals}
+
+-- of weigh: the cost
+abbrev pub printedWeight : Weighed → List ℕ
+printedWeight (W.Refused number) = printedRefusal number
+printedWeight (W.Cost c) = printedCost c
+
+-- of start_plan: the plan
+abbrev pub printedStart : Written → List ℕ → List ℕ
+printedStart (D.Refused number) plan = printedRefusal number
+printedStart D.Done plan = line 14 plan
+
+-- of two_opt, rebuild, exhaustive and pruned: the cost and the plan
+abbrev pub printedWeighed : Weighed → List ℕ → List ℕ
+printedWeighed (W.Refused number) plan = printedRefusal number
+printedWeighed (W.Cost c) plan = printedCost c ++ line 14 plan
+
+-- of solve: the numbers of the run and the plan
+abbrev pub printedSolved : Solved → List ℕ → List ℕ
+printedSolved (S.Refused number) plan = printedRefusal number
+printedSolved (S.Ran t) plan = printedTotals t ++ line 14 plan
+
+-- the longest plan of a sheet
+abbrev pub longestPlan : ℕ
+longestPlan = 96
+
+-- the most that is printed for a sheet: the numbers of a run and a plan
+abbrev pub mostPrinted : ℕ
+mostPrinted = 14 * longestPlan + 102
+
+-- a plan of a sheet, and room to print into
+pub record Printable (plan out : List ℕ) : Type 0 where
+  pub short : length plan ≤ longestPlan
+  pub room : mostPrinted ≤ length out
+
+-- an answer's cost is a whole number
+abbrev pub Exactly : Weighed → Type 0
+Exactly w = (c : Float) → w ≡ W.Cost c → IsWhole c

@@ -1,0 +1,5 @@
+pub mod Walks
+pub mod Seen
+pub mod Form
+pub mod Sets
+pub mod Locate

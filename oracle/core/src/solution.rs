@@ -1,0 +1,3 @@
+pub trait BasicSolution {
+    fn routes(&self) -> impl Iterator<Item = impl Iterator<Item = usize>>;
+}

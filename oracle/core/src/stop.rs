@@ -1,0 +1,3 @@
+pub trait BasicStop {
+    fn location(&self) -> usize;
+}

@@ -1,0 +1,4 @@
+pub trait BasicVehicle {
+    fn start_location(&self) -> usize;
+    fn end_location(&self) -> usize;
+}

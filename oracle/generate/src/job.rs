@@ -1,0 +1,229 @@
+use crate::Random;
+use sheet::Job;
+
+const MAX_DISTANCE: u32 = 200_000;
+const MAX_MISSED_PRICE: u64 = 10_000_000_000_000;
+
+/// Limits on the numbers of vehicles, stops and locations.
+#[derive(Clone, Copy)]
+pub struct Sizes {
+    pub vehicles: u64,
+    pub stops: u64,
+    pub locations: u64,
+}
+
+impl Sizes {
+    pub const TINY: Self = Self::new(2, 4, 4);
+    pub const SMALL: Self = Self::new(3, 6, 9);
+    pub const MEDIUM: Self = Self::new(6, 20, 30);
+    pub const LARGE: Self = Self::new(16, 64, 80);
+
+    const fn new(vehicles: u64, stops: u64, locations: u64) -> Self {
+        Self {
+            vehicles,
+            stops,
+            locations,
+        }
+    }
+}
+
+/// A job for a call that is no run.
+pub fn any_job(random: &mut Random) -> Job {
+    let sizes = random.choose(&[
+        Sizes::TINY,
+        Sizes::SMALL,
+        Sizes::SMALL,
+        Sizes::MEDIUM,
+        Sizes::MEDIUM,
+        Sizes::LARGE,
+    ]);
+
+    job(random, sizes)
+}
+
+/// A job for a run, with rounds as many as its size allows for a quick comparison.
+pub fn run_job(random: &mut Random) -> Job {
+    let sizes = random.choose(&[
+        Sizes::TINY,
+        Sizes::SMALL,
+        Sizes::SMALL,
+        Sizes::MEDIUM,
+        Sizes::MEDIUM,
+        Sizes::LARGE,
+    ]);
+    let mut job = job(random, sizes);
+
+    job.limit = match job.stops.len() {
+        0..=5 => random.choose(&[1, 9, 10, 50, 1_000, 1_000_000]),
+        6..=20 => random.choose(&[1, 9, 10, 11, 50, 50]),
+        _ => random.choose(&[1, 9, 10, 11, 20]),
+    };
+
+    // Idle rounds are bounded by the smoothing count, so that an unlimited run of a tiny job stays short.
+    if job.limit > 50 {
+        job.smoothing = random.choose(&[1, 2, 3, 20, 20, 100]);
+    }
+
+    job
+}
+
+pub fn small_job(random: &mut Random) -> Job {
+    let mut job = job(random, Sizes::TINY);
+
+    job.draws.truncate(5);
+    job
+}
+
+/// A job with every list at its limit, which does not settle soon.
+pub fn largest_job(random: &mut Random) -> Job {
+    Job {
+        vehicles: (0..16)
+            .map(|_| [0; 2].map(|_| random.small(0..=79)))
+            .collect(),
+        stops: (0..64).map(|_| random.small(0..=79)).collect(),
+        distances: plane(random, 80, MAX_DISTANCE),
+        linear: 1_000_000,
+        quadratic: random.choose(&[0, 16]),
+        missed: MAX_MISSED_PRICE,
+        smoothing: 1_000,
+        limit: 50,
+        draws: (0..1_024).map(|_| random.small(0..=u32::MAX)).collect(),
+    }
+}
+
+pub fn job(random: &mut Random, sizes: Sizes) -> Job {
+    let sizes = if random.once_in(10) {
+        sizes
+    } else {
+        Sizes {
+            vehicles: random.within(0..=sizes.vehicles),
+            stops: random.within(0..=sizes.stops),
+            locations: random.within(1..=sizes.locations),
+        }
+    };
+    // Most jobs have a vehicle, and none without locations has a place.
+    let vehicle_count = match sizes.vehicles {
+        0 if !random.once_in(8) => 1,
+        count => count,
+    };
+    let location_count = match vehicle_count + sizes.stops {
+        0 => random.within(0..=sizes.locations),
+        _ => sizes.locations,
+    };
+    let location = |random: &mut Random| random.below(location_count as usize) as u32;
+    let vehicles = (0..vehicle_count)
+        .map(|_| [location(random), location(random)])
+        .collect();
+    let stops = if sizes.stops <= location_count && random.once_in(2) {
+        let mut locations = (0..location_count as u32).collect::<Vec<_>>();
+
+        random.shuffle(&mut locations);
+        locations.truncate(sizes.stops as usize);
+        locations
+    } else {
+        (0..sizes.stops).map(|_| location(random)).collect()
+    };
+
+    let mut job = Job {
+        vehicles,
+        stops,
+        distances: distances(random, location_count as usize),
+        linear: match random.below(5) {
+            0 => 0,
+            1 | 2 => 1,
+            3 => random.small(0..=100),
+            _ => random.choose(&[1_000_000, 999_999, 12_345]),
+        },
+        quadratic: match random.below(4) {
+            0 | 1 => 0,
+            2 => 1,
+            _ => random.small(0..=16),
+        },
+        missed: 0,
+        smoothing: random.choose(&[1, 1, 2, 3, 20, 1_000]),
+        limit: random.choose(&[1, 9, 10, 50]),
+        draws: draws(random),
+    };
+
+    job.missed = missed(random, &job);
+    job
+}
+
+fn distances(random: &mut Random, count: usize) -> Vec<Vec<u32>> {
+    match random.below(10) {
+        0 => vec![vec![0; count]; count],
+        1 => vec![vec![random.choose(&[1, MAX_DISTANCE]); count]; count],
+        2..=4 => {
+            let max = random.choose(&[1, 2, 5, 20]);
+
+            uniform(random, count, max)
+        }
+        5 | 6 => uniform(random, count, MAX_DISTANCE),
+        7 => {
+            let mut distances = plane(random, count, MAX_DISTANCE);
+
+            for distance in distances.iter_mut().flatten() {
+                *distance -= random.small(0..=*distance / 4);
+            }
+
+            distances
+        }
+        8 => plane(random, count, 30),
+        _ => plane(random, count, MAX_DISTANCE),
+    }
+}
+
+fn uniform(random: &mut Random, count: usize, max: u32) -> Vec<Vec<u32>> {
+    (0..count)
+        .map(|_| (0..count).map(|_| random.small(0..=max)).collect())
+        .collect()
+}
+
+/// Distances between points of a plane, rounded.
+fn plane(random: &mut Random, count: usize, max: u32) -> Vec<Vec<u32>> {
+    let side = max as f64 / 2f64.sqrt();
+    let points = (0..count)
+        .map(|_| [0; 2].map(|_| random.below(1 << 20) as f64 / (1 << 20) as f64 * side))
+        .collect::<Vec<_>>();
+    let distance = |[a, b]: [f64; 2], [c, d]: [f64; 2]| {
+        let square = (a - c) * (a - c) + (b - d) * (b - d);
+
+        (square.sqrt().round() as u32).min(max)
+    };
+
+    points
+        .iter()
+        .map(|&one| points.iter().map(|&other| distance(one, other)).collect())
+        .collect()
+}
+
+fn missed(random: &mut Random, job: &Job) -> u64 {
+    let longest = job.distances.iter().flatten().copied().max().unwrap_or(0) as u64;
+    let linear = job.linear as u64;
+    let quadratic = job.quadratic as u64;
+    let sufficient =
+        2 * longest * linear + 4 * (job.stops.len() as u64 + 1) * longest * longest * quadratic;
+
+    match random.below(8) {
+        0 => 0,
+        1 => random.within(0..=5),
+        2 => random.within(0..=longest * linear),
+        3 => random.within(0..=sufficient),
+        4 => MAX_MISSED_PRICE,
+        5 => sufficient.saturating_sub(1),
+        _ => sufficient,
+    }
+    .min(MAX_MISSED_PRICE)
+}
+
+fn draws(random: &mut Random) -> Vec<u32> {
+    let count = match random.below(6) {
+        0 => 1,
+        1 => random.within(2..=5),
+        2 => random.choose(&[1_023, 1_024]),
+        _ => random.within(1..=200),
+    };
+    let max = random.choose(&[u32::MAX, u32::MAX, 1_000, 1]);
+
+    (0..count).map(|_| random.small(0..=max)).collect()
+}

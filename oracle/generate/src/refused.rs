@@ -1,0 +1,163 @@
+use crate::{sheet::accepted_sheet, Random};
+use sheet::{refusal, Call, Sheet, UNUSED};
+
+const MAX_TRIES: usize = 20;
+
+/// A sheet with one argument or several that are refused.
+pub fn refused_sheet(random: &mut Random) -> Sheet {
+    let call = random.choose(&Call::ALL);
+    let mut sheet = accepted_sheet(random, call);
+
+    // A test that fails to refuse is not to start a long run.
+    sheet.job.draws.truncate(3);
+    sheet.job.limit = sheet.job.limit.min(10);
+
+    for _ in 0..random.choose(&[0, 0, 1, 2]) {
+        refuse(random, &mut sheet);
+    }
+
+    for _ in 0..MAX_TRIES {
+        if refusal(&sheet).is_some() {
+            break;
+        }
+
+        refuse(random, &mut sheet);
+    }
+
+    sheet
+}
+
+/// Changes an argument so that the sheet is refused, where it has the argument and the change has room.
+pub fn refuse(random: &mut Random, sheet: &mut Sheet) {
+    let location_count = sheet.job.distances.len() as u32;
+    let too_far = random.choose(&[200_001, u32::MAX]);
+
+    match random.below(14) {
+        0 => resize_plan(random, sheet),
+        1 => {
+            if let Some(vehicle) = pick(random, &mut sheet.job.vehicles) {
+                vehicle[random.below(2)] = random.choose(&[location_count, u32::MAX]);
+            }
+        }
+        2 => {
+            if let Some(stop) = pick(random, &mut sheet.job.stops) {
+                *stop = random.choose(&[location_count, u32::MAX]);
+            }
+        }
+        3 => {
+            if let Some(distance) =
+                pick(random, &mut sheet.job.distances).and_then(|row| pick(random, row))
+            {
+                *distance = too_far;
+            }
+        }
+        4 => sheet.job.linear = random.choose(&[1_000_001, u32::MAX]),
+        5 => sheet.job.quadratic = random.choose(&[17, u32::MAX]),
+        6 => sheet.job.missed = random.choose(&[10_000_000_000_001, 99_999_999_999_999]),
+        7 => sheet.job.smoothing = random.choose(&[0, 1_001, u32::MAX]),
+        8 => sheet.job.limit = random.choose(&[0, 1_000_001, u32::MAX]),
+        9 | 10 => damage_plan(random, sheet),
+        11 | 12 => damage_given(random, sheet),
+        _ => oversize(random, sheet),
+    }
+}
+
+fn pick<'a, T>(random: &mut Random, items: &'a mut [T]) -> Option<&'a mut T> {
+    let count = items.len();
+
+    if count == 0 {
+        None
+    } else {
+        items.get_mut(random.below(count))
+    }
+}
+
+fn resize_plan(random: &mut Random, sheet: &mut Sheet) {
+    let length = sheet.plan.len();
+
+    if sheet.call.has_plan() {
+        sheet.plan.resize(
+            random.choose(&[0, length.saturating_sub(1), length + 1, 96]),
+            UNUSED,
+        );
+    }
+}
+
+fn damage_plan(random: &mut Random, sheet: &mut Sheet) {
+    let vehicle_count = sheet.job.vehicles.len().min(sheet.plan.len());
+    let stop_count = sheet.job.stops.len() as u32;
+    let (lengths, places) = sheet.plan.split_at_mut(vehicle_count);
+
+    match random.below(6) {
+        0 => {
+            if let Some(length) = pick(random, lengths) {
+                *length += random.choose(&[1, stop_count + 1]);
+            }
+        }
+        1 => {
+            if let Some(length) = pick(random, lengths) {
+                *length = length.saturating_sub(1);
+            }
+        }
+        2 => {
+            // Lengths whose sum wraps to a small one.
+            if let [one, other, ..] = lengths {
+                *one = u32::MAX;
+                *other += 1;
+            }
+        }
+        3 => {
+            if let Some(&stop) = places.first() {
+                if let Some(place) = pick(random, places) {
+                    *place = stop;
+                }
+            }
+        }
+        4 => {
+            if let Some(place) = pick(random, places) {
+                *place = random.choose(&[stop_count, u32::MAX, u32::MAX - 1]);
+            }
+        }
+        _ => {
+            if let Some(place) = places.last_mut() {
+                *place = random.choose(&[0, stop_count, u32::MAX - 1, u32::MAX]);
+            }
+        }
+    }
+}
+
+fn damage_given(random: &mut Random, sheet: &mut Sheet) {
+    let stop_count = sheet.job.stops.len() as u32;
+
+    match random.below(3) {
+        0 => {
+            if let Some(stop) = pick(random, &mut sheet.given) {
+                *stop = random.choose(&[stop_count, u32::MAX]);
+            }
+        }
+        1 => {
+            if let [one, other] = &mut sheet.given[..] {
+                *one = *other;
+            }
+        }
+        _ => {
+            if sheet.call == Call::Rebuild {
+                let count = random.choose(&[0, 3, 8]);
+                let stops = stop_count.max(1);
+
+                sheet.given = (0..count).map(|_| random.small(0..=stops - 1)).collect();
+            }
+        }
+    }
+}
+
+/// More stops or vehicles than the exhaustive solvers take.
+fn oversize(random: &mut Random, sheet: &mut Sheet) {
+    if matches!(sheet.call, Call::Exhaustive | Call::Pruned) && !sheet.job.distances.is_empty() {
+        if random.once_in(2) {
+            sheet.job.stops.resize(random.choose(&[7, 64]), 0);
+        } else {
+            sheet.job.vehicles.resize(random.choose(&[4, 16]), [0, 0]);
+        }
+    }
+}

@@ -1,0 +1,118 @@
+use crate::{
+    job::{any_job, job, run_job, small_job, Sizes},
+    refused::refuse,
+    Random,
+};
+use sheet::{encode, Call, Job, Sheet};
+
+/// A sheet of any call, mostly of those with many cases.
+pub fn any_sheet(random: &mut Random) -> Sheet {
+    let call = match random.below(20) {
+        0 => Call::Weigh,
+        1 | 2 => Call::StartPlan,
+        3..=10 => Call::TwoOpt,
+        11..=15 => Call::Rebuild,
+        16 => Call::Exhaustive,
+        17 => Call::Pruned,
+        _ => Call::Solve,
+    };
+
+    some_sheet(random, call)
+}
+
+/// A sheet of a call, one in ten of them refused.
+pub fn some_sheet(random: &mut Random, call: Call) -> Sheet {
+    let mut sheet = accepted_sheet(random, call);
+
+    if random.once_in(10) {
+        refuse(random, &mut sheet);
+    }
+
+    sheet
+}
+
+pub fn accepted_sheet(random: &mut Random, call: Call) -> Sheet {
+    let mut job = match call {
+        Call::Exhaustive | Call::Pruned => job(random, Sizes::SMALL),
+        Call::Solve => run_job(random),
+        _ => any_job(random),
+    };
+
+    // A sheet has its draws for the sake of its form, except that of a run.
+    if call != Call::Solve {
+        job.draws.truncate(2);
+    }
+
+    sheet(random, call, job)
+}
+
+pub fn small_sheet(random: &mut Random) -> Sheet {
+    let call = random.choose(&Call::ALL);
+    let job = small_job(random);
+
+    sheet(random, call, job)
+}
+
+fn sheet(random: &mut Random, call: Call, job: Job) -> Sheet {
+    let plan = if call.has_plan() {
+        plan(random, &job)
+    } else {
+        vec![]
+    };
+    let given = if call.has_given_stops() {
+        given(random, call, &job)
+    } else {
+        vec![]
+    };
+
+    Sheet {
+        call,
+        given,
+        plan,
+        job,
+    }
+}
+
+/// A plan with all, most, some or no stops placed, on all vehicles or on few.
+fn plan(random: &mut Random, job: &Job) -> Vec<u32> {
+    let mut routes = vec![vec![]; job.vehicles.len()];
+    let mut stops = (0..job.stops.len()).collect::<Vec<_>>();
+    let unplaced = random.choose(&[0, 0, 0, 1, 5, 10]);
+    let used = match random.below(3) {
+        0 => 1,
+        1 => 2,
+        _ => routes.len(),
+    }
+    .min(routes.len());
+
+    random.shuffle(&mut stops);
+    random.shuffle(&mut routes);
+
+    if used > 0 {
+        let first = random.below(routes.len());
+
+        for stop in stops {
+            if random.below(10) >= unplaced {
+                let vehicle = (first + random.below(used)) % routes.len();
+
+                routes[vehicle].push(stop);
+            }
+        }
+    }
+
+    encode(&routes, job.stops.len())
+}
+
+/// Stops of a call. Where there are too few, some that are refused.
+fn given(random: &mut Random, call: Call, job: &Job) -> Vec<u32> {
+    let count = if call == Call::TwoOpt {
+        2
+    } else {
+        1 + random.below(2)
+    };
+    let mut stops = (0..job.stops.len().max(count) as u32).collect::<Vec<_>>();
+
+    random.shuffle(&mut stops);
+    stops.truncate(count);
+    stops
+}

@@ -1,0 +1,66 @@
+//! The same steps written anew for speed: whole numbers, route lengths kept and changed by differences, sets of stops as
+//! bits, no maps. It shows how fast the steps can go; nothing is proved about it.
+
+mod arrange;
+mod day;
+mod plan;
+mod pruned;
+mod rebuild;
+mod run;
+mod start;
+mod two_opt;
+
+use day::Day;
+use plan::Plan;
+use sheet::{Job, Planner, Routes, Run};
+
+pub struct Plain {}
+
+impl Planner for Plain {
+    fn weigh(job: &Job, routes: &Routes) -> u64 {
+        let day = Day::new(job);
+
+        Plan::from_routes(&day, routes).cost(&day)
+    }
+
+    fn start_plan(job: &Job) -> Routes {
+        let day = Day::new(job);
+
+        start::start_plan(&day).to_routes(&day)
+    }
+
+    fn two_opt(job: &Job, routes: &Routes, stops: [usize; 2]) -> Routes {
+        let day = Day::new(job);
+        let mut plan = Plan::from_routes(&day, routes);
+
+        two_opt::two_opt(&day, &mut plan, stops[0], stops[1]);
+        plan.to_routes(&day)
+    }
+
+    fn rebuild(job: &Job, routes: &Routes, stops: &[usize]) -> Routes {
+        let day = Day::new(job);
+        let mut plan = Plan::from_routes(&day, routes);
+
+        rebuild::rebuild(&day, &mut plan, stops);
+        plan.to_routes(&day)
+    }
+
+    fn exhaustive(job: &Job) -> Routes {
+        let day = Day::new(job);
+        let mut plan = Plan::new(&day);
+
+        rebuild::exhaustive(&day, &mut plan);
+        plan.to_routes(&day)
+    }
+
+    fn pruned(job: &Job) -> Routes {
+        pruned::pruned(&Day::new(job))
+    }
+
+    fn solve(job: &Job) -> (Run, Routes) {
+        let day = Day::new(job);
+        let (run, plan) = run::run(&day, job.smoothing, job.limit, &job.draws);
+
+        (run, plan.to_routes(&day))
+    }
+}

@@ -1,0 +1,198 @@
+use crate::{decode, Call, Job, Sheet};
+
+const MAX_DISTANCE: u32 = 200_000;
+const MAX_LINEAR_PRICE: u32 = 1_000_000;
+const MAX_QUADRATIC_PRICE: u32 = 16;
+const MAX_MISSED_PRICE: u64 = 10_000_000_000_000;
+const MAX_SMOOTHING_COUNT: u32 = 1_000;
+const MAX_ROUND_LIMIT: u32 = 1_000_000;
+const MAX_EXHAUSTIVE_STOP_COUNT: usize = 6;
+const MAX_EXHAUSTIVE_VEHICLE_COUNT: usize = 3;
+
+/// The lowest refusal that applies to a call's arguments. Numbers 1, 2, 3 and 5 speak of lists that no file holds.
+pub fn refusal(sheet: &Sheet) -> Option<u64> {
+    let Sheet {
+        call,
+        given,
+        plan,
+        job,
+    } = sheet;
+    let vehicle_count = job.vehicles.len();
+    let stop_count = job.stops.len();
+    let is_exhaustive = matches!(call, Call::Exhaustive | Call::Pruned);
+    let is_run = *call == Call::Solve;
+
+    [
+        (
+            4,
+            call.has_plan() && plan.len() != vehicle_count + stop_count,
+        ),
+        (6, has_unknown_location(job)),
+        (
+            7,
+            job.distances
+                .iter()
+                .flatten()
+                .any(|&distance| distance > MAX_DISTANCE),
+        ),
+        (8, call.has_prices() && has_high_price(job)),
+        (
+            9,
+            is_run && !(1..=MAX_SMOOTHING_COUNT).contains(&job.smoothing),
+        ),
+        (10, is_run && !(1..=MAX_ROUND_LIMIT).contains(&job.limit)),
+        (
+            11,
+            call.has_plan() && decode(plan, vehicle_count, stop_count).is_none(),
+        ),
+        (
+            12,
+            call.has_given_stops() && !are_given_stops(*call, given, stop_count),
+        ),
+        (
+            13,
+            is_exhaustive
+                && (stop_count > MAX_EXHAUSTIVE_STOP_COUNT
+                    || vehicle_count > MAX_EXHAUSTIVE_VEHICLE_COUNT),
+        ),
+    ]
+    .into_iter()
+    .find_map(|(number, applies)| applies.then_some(number))
+}
+
+fn has_unknown_location(job: &Job) -> bool {
+    job.vehicles
+        .iter()
+        .flatten()
+        .chain(&job.stops)
+        .any(|&location| location as usize >= job.distances.len())
+}
+
+fn has_high_price(job: &Job) -> bool {
+    job.linear > MAX_LINEAR_PRICE
+        || job.quadratic > MAX_QUADRATIC_PRICE
+        || job.missed > MAX_MISSED_PRICE
+}
+
+fn are_given_stops(call: Call, given: &[u32], stop_count: usize) -> bool {
+    let counts = if call == Call::TwoOpt { 2..=2 } else { 1..=2 };
+
+    counts.contains(&given.len())
+        && given.iter().all(|&stop| (stop as usize) < stop_count)
+        && (given.len() == 1 || given[0] != given[1])
+}
+
+#[cfg(test)]
+mod tests {
+    use super::*;
+    use crate::UNUSED;
+
+    fn sheet(call: Call) -> Sheet {
+        Sheet {
+            call,
+            given: if call.has_given_stops() {
+                vec![0, 1]
+            } else {
+                vec![]
+            },
+            plan: if call.has_plan() {
+                vec![2, 0, 1]
+            } else {
+                vec![]
+            },
+            job: Job {
+                vehicles: vec![[0, 0]],
+                stops: vec![1, 2],
+                distances: vec![vec![200_000; 3]; 3],
+                linear: 1_000_000,
+                quadratic: 16,
+                missed: 10_000_000_000_000,
+                smoothing: 1_000,
+                limit: 1_000_000,
+                draws: vec![0],
+            },
+        }
+    }
+
+    fn check(calls: &[Call], number: u64, damage: impl Fn(&mut Sheet)) {
+        for call in Call::ALL {
+            let mut sheet = sheet(call);
+
+            assert_eq!(refusal(&sheet), None);
+            damage(&mut sheet);
+            assert_eq!(
+                refusal(&sheet),
+                calls.contains(&call).then_some(number),
+                "{call:?}"
+            );
+        }
+    }
+
+    #[test]
+    fn refuses_by_call() {
+        use Call::*;
+
+        let priced = [Weigh, TwoOpt, Rebuild, Exhaustive, Pruned, Solve];
+
+        check(&[Weigh, TwoOpt, Rebuild], 4, |sheet| {
+            sheet.plan.push(UNUSED)
+        });
+        check(&Call::ALL, 6, |sheet| sheet.job.vehicles[0][0] = 3);
+        check(&Call::ALL, 6, |sheet| sheet.job.vehicles[0][1] = 3);
+        check(&Call::ALL, 6, |sheet| sheet.job.stops[1] = 3);
+        check(&Call::ALL, 7, |sheet| sheet.job.distances[2][2] = 200_001);
+        check(&priced, 8, |sheet| sheet.job.linear += 1);
+        check(&priced, 8, |sheet| sheet.job.quadratic += 1);
+        check(&priced, 8, |sheet| sheet.job.missed += 1);
+        check(&[Solve], 9, |sheet| sheet.job.smoothing += 1);
+        check(&[Solve], 9, |sheet| sheet.job.smoothing = 0);
+        check(&[Solve], 10, |sheet| sheet.job.limit += 1);
+        check(&[Solve], 10, |sheet| sheet.job.limit = 0);
+        check(&[Weigh, TwoOpt, Rebuild], 11, |sheet| {
+            if sheet.call.has_plan() {
+                sheet.plan[2] = 0
+            }
+        });
+        check(&[TwoOpt, Rebuild], 12, |sheet| {
+            if sheet.call.has_given_stops() {
+                sheet.given[0] = 1
+            }
+        });
+        check(&[TwoOpt, Rebuild], 12, |sheet| {
+            if sheet.call.has_given_stops() {
+                sheet.given[1] = 2
+            }
+        });
+        check(&[Exhaustive, Pruned], 13, |sheet| {
+            sheet.job.vehicles = vec![[0, 0]; 4];
+
+            if sheet.call.has_plan() {
+                sheet.plan = vec![0, 0, 0, 2, 0, 1]
+            }
+        });
+        check(&[Exhaustive, Pruned], 13, |sheet| {
+            sheet.job.stops = vec![0; 7];
+
+            if sheet.call.has_plan() {
+                sheet.plan.resize(8, UNUSED)
+            }
+        });
+        check(&[TwoOpt, Rebuild], 12, |sheet| sheet.given.push(0));
+    }
+
+    fn rebuild(given: &[u32]) -> Option<u64> {
+        refusal(&Sheet {
+            given: given.to_vec(),
+            ..sheet(Call::Rebuild)
+        })
+    }
+
+    #[test]
+    fn rebuilds_round_one_or_two_stops() {
+        assert_eq!(rebuild(&[]), Some(12));
+        assert_eq!(rebuild(&[1]), None);
+        assert_eq!(rebuild(&[1, 0]), None);
+        assert_eq!(rebuild(&[2]), Some(12));
+        assert_eq!(rebuild(&[0, 1, 2]), Some(12));
+    }
+}

@@ -1,0 +1,5 @@
+mod calculator;
+mod distance;
+
+pub use calculator::{CostCalculator, DeliveryCostCalculator};
+pub use distance::DistanceCostCalculator;
