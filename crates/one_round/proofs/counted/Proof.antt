@@ -3,8 +3,8 @@ use borrow.Author.Needs.{needs}
 use mathlib.Core.Path.{refl, ap}
 use Prim.Native.Nat.{ℕ, _+_}
 use native.Mathlib.Omega.{arith}
-use Rattle.ruin_and_recreate.proofs.counted.Statement.{statement}
-use Rattle.ruin_and_recreate.proofs.counted.Tie as tie
+use Rattle.one_round.proofs.counted.Statement.{statement}
+use Rattle.one_round.proofs.counted.Tie as tie
 
 after-round-requires : tie.Need-after-round-requires
 after-round-requires c κs = search needs

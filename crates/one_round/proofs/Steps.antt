@@ -33,8 +33,8 @@ use Rattle.nearest_neighbor.proofs.Filling.{row-once}
 use Rattle.rebuild.specs.Rebuilt.{Rebuilt}
 use Rattle.draws.specs.Picks.{pickedFrom, Picked}
 use Rattle.draws.proofs.Picks.{picked-same}
-use Rattle.ruin_and_recreate.specs.declared.Progress.{Progress}
-use Rattle.ruin_and_recreate.specs.Standing.{Counted, stateOf, Course, Standing, Rounded, taskFor}
+use Rattle.one_round.specs.declared.Progress.{Progress}
+use Rattle.one_round.specs.Standing.{Counted, stateOf, Course, Standing, Rounded, taskFor}
 
 -- whether a round improves is seen in f64
 pub improves-one : (b : Bool) (old new : Float) (m k : ℕ) → lt new old ≡ b → m ≤ exact → k ≤ exact → old ≡ whole m → new ≡ whole k

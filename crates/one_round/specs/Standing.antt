@@ -1,23 +1,21 @@
 -- Where a run stands between its rounds: what the code carries, and the state of the definition that it is.
 use mathlib.Core.Path.{_≡_}
 use Prim.Native.Nat.{ℕ, _+_, _*_, _≤_, _<_}
-use mathlib.Core.Bool.{false, cond}
+use mathlib.Core.Bool.{cond}
 use mathlib.Core.List.{List}
 use lib.Dec.{ltb}
 use lib.Ieee.{Float}
 use lib.ListN.{length}
 use Rattle.model.specs.declared.Prices.{Prices}
-use Rattle.model.specs.declared.Totals.{Totals}
 use Rattle.model.specs.Whole.{whole, exact}
 use Rattle.model.specs.Job.{Job}
-use Rattle.model.specs.Plan.{Plan, encode, decode, Lent, Sizes}
+use Rattle.model.specs.Plan.{Plan, decode, Lent, Sizes}
 use Rattle.model.specs.Legs.{LegTable, Affordable, Fits}
 use Rattle.model.specs.Cost.{cost}
 use Rattle.model.specs.Settle.{averaged}
-use Rattle.model.specs.Run.{Task, State, startState, roundFrom, rounds, lastState}
-use Rattle.model.specs.Calls.{finalState, totals}
+use Rattle.model.specs.Run.{Task, State, roundFrom}
 use Rattle.nearest_neighbor.specs.Answers.{Neighbours}
-use Rattle.ruin_and_recreate.specs.declared.Progress.{Progress}
+use Rattle.one_round.specs.declared.Progress.{Progress}
 
 -- the counts can go on
 pub record Countable (p : Progress) (picks c : ℕ) : Type 0 where
@@ -72,23 +70,3 @@ pub record Rounded (legs : List ℕ) (v n : ℕ) (prices : Prices) (draws : List
   pub stands : Standing legs v n prices ys r
   pub rounds : r .rounds ≡ p .rounds + 1
   pub is : (J : Job) (limit : ℕ) → Fits J legs v n prices → stateOf v ys r ≡ roundFrom (taskFor J c limit draws) (stateOf v xs p) .end
-
--- where the rounds from the start plan on end
-pub record Ended (legs : List ℕ) (v n : ℕ) (prices : Prices) (draws : List ℕ) (c limit : ℕ) (plan : List ℕ) (r : Progress) : Type 0 where
-  pub stands : Standing legs v n prices plan r
-  pub is : (J : Job) → Fits J legs v n prices → let T = taskFor J c limit draws in
-      stateOf v plan r ≡ lastState (startState T) (rounds limit false T (startState T))
-
--- what a run is given
-pub record Runnable (legs : List ℕ) (v n : ℕ) (prices : Prices) (draws : List ℕ) (c : ℕ) (plan : List ℕ) : Type 0 where
-  pub table : LegTable legs
-  pub sizes : Sizes v n
-  pub affordable : Affordable prices
-  pub some : 0 < length draws
-  pub smooth : 1 ≤ c
-  pub long : length plan ≡ v + n
-
--- for every job that fits: the answer is the run's, and the plan is the one that the run leaves
-abbrev pub Ran : List ℕ → ℕ → ℕ → Prices → List ℕ → ℕ → ℕ → List ℕ → Totals → Type 0
-Ran legs v n prices draws c limit plan t =
-    (J : Job) → Fits J legs v n prices → let T = taskFor J c limit draws in (t ≡ totals T) × (plan ≡ encode n (finalState T .plan))

@@ -2,9 +2,9 @@
 use borrow.Author.Needs.{needs}
 use mathlib.Core.Path.{refl}
 use native.Mathlib.Omega.{arith}
-use Rattle.ruin_and_recreate.proofs.Steps.{ready, part-row, part-picks, row-lent, rounded}
-use Rattle.ruin_and_recreate.proofs.round.Statement.{statement}
-use Rattle.ruin_and_recreate.proofs.round.Tie as tie
+use Rattle.one_round.proofs.Steps.{ready, part-row, part-picks, row-lent, rounded}
+use Rattle.one_round.proofs.round.Statement.{statement}
+use Rattle.one_round.proofs.round.Tie as tie
 
 -- the calls that lie behind, each from the next one
 abbrev start : tie.After-among → tie.Start

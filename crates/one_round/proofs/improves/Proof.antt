@@ -1,9 +1,9 @@
 -- `ruin_and_recreate::improves` meets its contract. Assumes nothing.
 use mathlib.Core.Bool.{true, false}
 use native.Mathlib.Omega.{arith}
-use Rattle.ruin_and_recreate.proofs.Steps.{improves-one}
-use Rattle.ruin_and_recreate.proofs.improves.Statement.{statement}
-use Rattle.ruin_and_recreate.proofs.improves.Tie as tie
+use Rattle.one_round.proofs.Steps.{improves-one}
+use Rattle.one_round.proofs.improves.Statement.{statement}
+use Rattle.one_round.proofs.improves.Tie as tie
 
 returns : tie.Need-returns
 returns c = (omega arith, λ m k M K p q. improves-one true _ _ m k (c .if1 .taken) M K p q)
