@@ -70,9 +70,9 @@ pub extern "C" fn planner_weigh(
     ensures { λ _. ⌜ now (cost .exit) ≡ costLeft (costAnswer Weigh (asking (jobOf (now (vehicles .entry)) (now (stops .entry)) locations (now (distances .entry)) (priced linear quadratic missed)) (now (plan .entry)) [])) (now (cost .entry)) ⌝ }
 {
     let prices = Prices {
-        linear: linear,
-        quadratic: quadratic,
-        missed: missed,
+        linear,
+        quadratic,
+        missed,
     };
     let answer = planner::weigh(vehicles, stops, locations, distances, prices, plan);
     hand_cost(answer, cost)
@@ -116,9 +116,9 @@ pub extern "C" fn planner_two_opt(
     ensures { λ _. ⌜ now (plan .exit) ≡ planLeft TwoOpt (asking (jobOf (now (vehicles .entry)) (now (stops .entry)) locations (now (distances .entry)) (priced linear quadratic missed)) (now (plan .entry)) (first ∷ second ∷ [])) ⌝ }
 {
     let prices = Prices {
-        linear: linear,
-        quadratic: quadratic,
-        missed: missed,
+        linear,
+        quadratic,
+        missed,
     };
     let answer = planner::two_opt(
         vehicles,
@@ -152,9 +152,9 @@ pub extern "C" fn planner_rebuild(
     ensures { λ _. ⌜ now (plan .exit) ≡ planLeft Rebuild (asking (jobOf (now (vehicles .entry)) (now (stops .entry)) locations (now (distances .entry)) (priced linear quadratic missed)) (now (plan .entry)) (now (given .entry))) ⌝ }
 {
     let prices = Prices {
-        linear: linear,
-        quadratic: quadratic,
-        missed: missed,
+        linear,
+        quadratic,
+        missed,
     };
     let answer = planner::rebuild(vehicles, stops, locations, distances, prices, plan, given);
     hand_cost(answer, cost)
@@ -178,9 +178,9 @@ pub extern "C" fn planner_exhaustive(
     ensures { λ _. ⌜ now (plan .exit) ≡ planLeft Exhaustive (asking (jobOf (now (vehicles .entry)) (now (stops .entry)) locations (now (distances .entry)) (priced linear quadratic missed)) (now (plan .entry)) []) ⌝ }
 {
     let prices = Prices {
-        linear: linear,
-        quadratic: quadratic,
-        missed: missed,
+        linear,
+        quadratic,
+        missed,
     };
     let answer = planner::exhaustive(vehicles, stops, locations, distances, prices, plan);
     hand_cost(answer, cost)
@@ -204,9 +204,9 @@ pub extern "C" fn planner_pruned(
     ensures { λ _. ⌜ now (plan .exit) ≡ planLeft Pruned (asking (jobOf (now (vehicles .entry)) (now (stops .entry)) locations (now (distances .entry)) (priced linear quadratic missed)) (now (plan .entry)) []) ⌝ }
 {
     let prices = Prices {
-        linear: linear,
-        quadratic: quadratic,
-        missed: missed,
+        linear,
+        quadratic,
+        missed,
     };
     let answer = planner::pruned(vehicles, stops, locations, distances, prices, plan);
     hand_cost(answer, cost)
@@ -239,9 +239,9 @@ pub extern "C" fn planner_solve(
     ensures { λ _. ⌜ Keeps (running (jobOf (now (vehicles .entry)) (now (stops .entry)) locations (now (distances .entry)) (priced linear quadratic missed)) smoothing limit (now (draws .entry)) (now (plan .entry))) (solveAnswer (running (jobOf (now (vehicles .entry)) (now (stops .entry)) locations (now (distances .entry)) (priced linear quadratic missed)) smoothing limit (now (draws .entry)) (now (plan .entry)))) (now (plan .exit)) ⌝ }
 {
     let prices = Prices {
-        linear: linear,
-        quadratic: quadratic,
-        missed: missed,
+        linear,
+        quadratic,
+        missed,
     };
     let answer = planner::solve(
         vehicles,
