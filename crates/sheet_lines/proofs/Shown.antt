@@ -6,7 +6,7 @@ use Rattle.model.specs.declared.Weighed.{Weighed}
 use Rattle.model.specs.declared.Written.{Written}
 use Rattle.model.specs.declared.Solved.{Solved}
 use Rattle.printing.specs.Printing.{Prints}
-use Rattle.sheet.specs.Printed.{printedWeight, printedStart, printedWeighed, printedSolved}
+use Rattle.sheet_lines.specs.Printed.{printedWeight, printedStart, printedWeighed, printedSolved}
 
 module _ (old new : List ℕ) (r : ℕ) where
   pub shown-weight : (a b : Weighed) → a ≡ b → Prints old new r (printedWeight a) → Prints old new r (printedWeight b)

@@ -1,11 +1,11 @@
--- `sheet::pruned` meets its contract.
+-- `exact_sheets::pruned` meets its contract.
 use mathlib.Core.Path.{refl}
 use borrow.Author.Needs.{needs}
 use Rattle.model.specs.Refusals.{Pruned}
-use Rattle.sheet.proofs.Exact.{exactly}
-use Rattle.sheet.proofs.Shown.{shown-weighed}
-use Rattle.sheet.proofs.pruned.Statement.{statement}
-use Rattle.sheet.proofs.pruned.Tie as tie
+use Rattle.sheet_lines.proofs.Exact.{exactly}
+use Rattle.sheet_lines.proofs.Shown.{shown-weighed}
+use Rattle.exact_sheets.proofs.pruned.Statement.{statement}
+use Rattle.exact_sheets.proofs.pruned.Tie as tie
 
 pruned-requires : tie.Need-pruned-requires
 pruned-requires c κs = search needs

@@ -1,10 +1,10 @@
--- `sheet::print_weighed` meets its contract.
+-- `sheet_lines::print_weighed` meets its contract.
 use mathlib.Core.Path.{sym}
 use native.Mathlib.Omega.{arith}
 use borrow.Author.Needs.{needs}
-use Rattle.sheet.proofs.Shown.{shown-weighed}
-use Rattle.sheet.proofs.print_weighed.Statement.{statement}
-use Rattle.sheet.proofs.print_weighed.Tie as tie
+use Rattle.sheet_lines.proofs.Shown.{shown-weighed}
+use Rattle.sheet_lines.proofs.print_weighed.Statement.{statement}
+use Rattle.sheet_lines.proofs.print_weighed.Tie as tie
 
 enum-known-answer : tie.Need-enum-known-answer
 enum-known-answer c = search needs

@@ -1,9 +1,9 @@
--- `sheet::start_plan` meets its contract.
+-- `plan_sheets::start_plan` meets its contract.
 use mathlib.Core.Path.{sym, _∙_}
 use borrow.Author.Needs.{needs}
-use Rattle.sheet.proofs.Shown.{shown-start}
-use Rattle.sheet.proofs.start_plan.Statement.{statement}
-use Rattle.sheet.proofs.start_plan.Tie as tie
+use Rattle.sheet_lines.proofs.Shown.{shown-start}
+use Rattle.plan_sheets.proofs.start_plan.Statement.{statement}
+use Rattle.plan_sheets.proofs.start_plan.Tie as tie
 
 start-plan-requires : tie.Need-start-plan-requires
 start-plan-requires c κs = search needs

@@ -1,11 +1,11 @@
--- `sheet::two_opt` meets its contract.
+-- `move_sheets::two_opt` meets its contract.
 use mathlib.Core.Path.{refl}
 use borrow.Author.Needs.{needs}
 use Rattle.model.specs.Refusals.{TwoOpt}
-use Rattle.sheet.proofs.Exact.{exactly}
-use Rattle.sheet.proofs.Shown.{shown-weighed}
-use Rattle.sheet.proofs.two_opt.Statement.{statement}
-use Rattle.sheet.proofs.two_opt.Tie as tie
+use Rattle.sheet_lines.proofs.Exact.{exactly}
+use Rattle.sheet_lines.proofs.Shown.{shown-weighed}
+use Rattle.move_sheets.proofs.two_opt.Statement.{statement}
+use Rattle.move_sheets.proofs.two_opt.Tie as tie
 
 two-opt-requires : tie.Need-two-opt-requires
 two-opt-requires c κs = search needs

@@ -1,11 +1,11 @@
--- `sheet::rebuild` meets its contract.
+-- `move_sheets::rebuild` meets its contract.
 use mathlib.Core.Path.{refl}
 use borrow.Author.Needs.{needs}
 use Rattle.model.specs.Refusals.{Rebuild}
-use Rattle.sheet.proofs.Exact.{exactly}
-use Rattle.sheet.proofs.Shown.{shown-weighed}
-use Rattle.sheet.proofs.rebuild.Statement.{statement}
-use Rattle.sheet.proofs.rebuild.Tie as tie
+use Rattle.sheet_lines.proofs.Exact.{exactly}
+use Rattle.sheet_lines.proofs.Shown.{shown-weighed}
+use Rattle.move_sheets.proofs.rebuild.Statement.{statement}
+use Rattle.move_sheets.proofs.rebuild.Tie as tie
 
 rebuild-requires : tie.Need-rebuild-requires
 rebuild-requires c κs = search needs

@@ -1,12 +1,12 @@
--- `sheet::weigh` meets its contract.
+-- `plan_sheets::weigh` meets its contract.
 use mathlib.Core.Path.{refl, sym, _∙_}
 use native.Mathlib.Omega.{arith}
 use borrow.Author.Needs.{needs}
 use Rattle.model.specs.Refusals.{Weigh}
-use Rattle.sheet.proofs.Exact.{exactly}
-use Rattle.sheet.proofs.Shown.{shown-weight}
-use Rattle.sheet.proofs.weigh.Statement.{statement}
-use Rattle.sheet.proofs.weigh.Tie as tie
+use Rattle.sheet_lines.proofs.Exact.{exactly}
+use Rattle.sheet_lines.proofs.Shown.{shown-weight}
+use Rattle.plan_sheets.proofs.weigh.Statement.{statement}
+use Rattle.plan_sheets.proofs.weigh.Tie as tie
 
 weigh-requires : tie.Need-weigh-requires
 weigh-requires c κs = search needs

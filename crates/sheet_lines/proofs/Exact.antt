@@ -25,7 +25,7 @@ use Rattle.promise.proofs.Limits.{cost-small}
 use Rattle.promise.proofs.Left.{formed-exact, final-formed}
 use Rattle.call_laws.proofs.Passed.{listed, affordable, lent}
 use Rattle.run_calls.proofs.Solving.{task-accepted}
-use Rattle.sheet.specs.Printed.{Exactly}
+use Rattle.sheet_lines.specs.Printed.{Exactly}
 
 module _ (J : Job) where
   -- the choice never makes it dearer

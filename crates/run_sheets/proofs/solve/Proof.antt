@@ -1,10 +1,10 @@
--- `sheet::solve` meets its contract.
+-- `run_sheets::solve` meets its contract.
 use mathlib.Core.Path.{sym, _∙_}
 use borrow.Author.Needs.{needs}
 use Rattle.answers.proofs.Laws.{ran-priced}
-use Rattle.sheet.proofs.Shown.{shown-solved}
-use Rattle.sheet.proofs.solve.Statement.{statement}
-use Rattle.sheet.proofs.solve.Tie as tie
+use Rattle.sheet_lines.proofs.Shown.{shown-solved}
+use Rattle.run_sheets.proofs.solve.Statement.{statement}
+use Rattle.run_sheets.proofs.solve.Tie as tie
 
 solve-requires : tie.Need-solve-requires
 solve-requires c κs = search needs

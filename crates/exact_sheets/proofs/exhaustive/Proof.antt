@@ -1,11 +1,11 @@
--- `sheet::exhaustive` meets its contract.
+-- `exact_sheets::exhaustive` meets its contract.
 use mathlib.Core.Path.{refl}
 use borrow.Author.Needs.{needs}
 use Rattle.model.specs.Refusals.{Exhaustive}
-use Rattle.sheet.proofs.Exact.{exactly}
-use Rattle.sheet.proofs.Shown.{shown-weighed}
-use Rattle.sheet.proofs.exhaustive.Statement.{statement}
-use Rattle.sheet.proofs.exhaustive.Tie as tie
+use Rattle.sheet_lines.proofs.Exact.{exactly}
+use Rattle.sheet_lines.proofs.Shown.{shown-weighed}
+use Rattle.exact_sheets.proofs.exhaustive.Statement.{statement}
+use Rattle.exact_sheets.proofs.exhaustive.Tie as tie
 
 exhaustive-requires : tie.Need-exhaustive-requires
 exhaustive-requires c κs = search needs
