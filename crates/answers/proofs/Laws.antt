@@ -20,7 +20,7 @@ use Rattle.model.specs.File.{printed, printedRefusal}
 use Rattle.model.proofs.PlanForm.{decode-encode}
 use Rattle.model.proofs.Tasks.{accepted-once}
 use Rattle.promise.proofs.Left.{formed-lent, start-formed, formed-exact, final-formed}
-use Rattle.planner.proofs.Solving.{task-accepted}
+use Rattle.run_calls.proofs.Solving.{task-accepted}
 use Rattle.refusals.specs.Asked.{running}
 use Rattle.job_file.specs.declared.Header.{Header}
 use Rattle.job_file.specs.Reading.{headerOf, Buffers, Room, over, ReadWhole}

@@ -14,7 +14,7 @@ use Rattle.model.specs.Job.{jobOf, vehicleCount, stopCount}
 use Rattle.model.specs.Refusals.{Arguments, asking, Call, Test, tests, asked, firstOf, refusal, badLength, StartPlan}
 use Rattle.refusals.specs.Order.{first, ofJob}
 use Rattle.refusals.specs.Asked.{unpriced}
-use Rattle.refusals.proofs.Laws.{few-vehicles, few-stops}
+use Rattle.bad_input.proofs.Laws.{few-vehicles, few-stops}
 use Rattle.refusals.proofs.Order.{job-order}
 
 -- no test has the number 0

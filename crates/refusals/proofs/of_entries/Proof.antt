@@ -1,6 +1,6 @@
 -- `refusals::of_entries` meets its contract. Assumes nothing.
 use Rattle.refusals.specs.Order.{ofEntries}
-use Rattle.refusals.proofs.Laws.{said}
+use Rattle.bad_input.proofs.Laws.{said}
 use borrow.Author.Needs.{needs}
 use Rattle.refusals.proofs.of_entries.Statement.{statement}
 use Rattle.refusals.proofs.of_entries.Tie as tie

@@ -1,7 +1,7 @@
 -- `refusals::of_numbers` meets its contract. Assumes nothing.
 use borrow.Author.Needs.{needs}
 use Rattle.refusals.specs.Order.{ofNumbers}
-use Rattle.refusals.proofs.Laws.{said}
+use Rattle.bad_input.proofs.Laws.{said}
 use Rattle.refusals.proofs.of_numbers.Statement.{statement}
 use Rattle.refusals.proofs.of_numbers.Tie as tie
 

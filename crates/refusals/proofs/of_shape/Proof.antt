@@ -1,6 +1,6 @@
 -- `refusals::of_shape` meets its contract. Assumes nothing.
 use Rattle.refusals.specs.Order.{ofShape}
-use Rattle.refusals.proofs.Laws.{said, few-vehicles, few-stops}
+use Rattle.bad_input.proofs.Laws.{said, few-vehicles, few-stops}
 use borrow.Author.Needs.{needs}
 use Rattle.refusals.proofs.of_shape.Statement.{statement}
 use Rattle.refusals.proofs.of_shape.Tie as tie

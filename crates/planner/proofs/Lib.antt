@@ -1,4 +1,0 @@
-pub mod Passed
-pub mod Answers
-pub mod Pair
-pub mod Solving

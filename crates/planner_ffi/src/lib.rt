@@ -1,0 +1,258 @@
+// The calls for hosts in C or Rust, which `include/planner.h` declares: each passes its arguments to the call of crate `planner`,
+// returns the number of the refusal, 0 for none, and writes an accepted call's values through the references that it was lent.
+ghost use mathlib.Core.Path.{_≡_};
+ghost use mathlib.Core.List.{[], _∷_};
+ghost use Rattle.model.specs.Job.{jobOf};
+ghost use Rattle.model.specs.Refusals.{asking, Weigh, StartPlan, TwoOpt, Rebuild, Exhaustive, Pruned, Solve};
+ghost use Rattle.model.specs.Calls.{costAnswer, startAnswer, solveAnswer, planLeft, saidByWeighed, saidByWritten, saidBySolved};
+ghost use Rattle.refusals.specs.Asked.{unpriced, running};
+ghost use Rattle.run_calls.specs.Kept.{Keeps};
+ghost use Rattle.planner_ffi.specs.Border.{priced, costLeft, results, resultsLeft};
+use model::Prices;
+use model::Solved;
+use model::Weighed;
+use model::Written;
+
+// The number and the cost of an answer.
+fn hand_cost(answer: Weighed, cost: &mut f64) -> u32
+    ensures { λ r. ⌜ r ≡ saidByWeighed answer .number ⌝ }
+    ensures { λ _. ⌜ now (cost .exit) ≡ costLeft answer (now (cost .entry)) ⌝ }
+{
+    match answer {
+        Weighed::Refused(number) => number,
+        Weighed::Cost(c) => {
+            *cost = c;
+            0
+        }
+    }
+}
+
+// The number and the values of a run's answer.
+fn hand_totals(
+    answer: Solved,
+    start: &mut f64,
+    end: &mut f64,
+    rounds: &mut u32,
+    improving: &mut u32,
+    settled: &mut u32,
+) -> u32
+    ensures { λ r. ⌜ r ≡ saidBySolved answer .number ⌝ }
+    ensures { λ _. ⌜ results (now (start .exit)) (now (end .exit)) (now (rounds .exit)) (now (improving .exit)) (now (settled .exit))
+        ≡ resultsLeft answer (results (now (start .entry)) (now (end .entry)) (now (rounds .entry)) (now (improving .entry)) (now (settled .entry))) ⌝ }
+{
+    match answer {
+        Solved::Refused(number) => number,
+        Solved::Ran(t) => {
+            *start = t.start;
+            *end = t.end;
+            *rounds = t.rounds;
+            *improving = t.improving;
+            *settled = t.settled as u32;
+            0
+        }
+    }
+}
+
+// Weighs a plan.
+#[no_mangle]
+pub extern "C" fn planner_weigh(
+    vehicles: &[u32],
+    stops: &[u32],
+    locations: u32,
+    distances: &[u32],
+    linear: u32,
+    quadratic: u32,
+    missed: u64,
+    plan: &[u32],
+    cost: &mut f64,
+) -> u32
+    ensures { λ r. ⌜ r ≡ saidByWeighed (costAnswer Weigh (asking (jobOf (now (vehicles .entry)) (now (stops .entry)) locations (now (distances .entry)) (priced linear quadratic missed)) (now (plan .entry)) [])) .number ⌝ }
+    ensures { λ _. ⌜ now (cost .exit) ≡ costLeft (costAnswer Weigh (asking (jobOf (now (vehicles .entry)) (now (stops .entry)) locations (now (distances .entry)) (priced linear quadratic missed)) (now (plan .entry)) [])) (now (cost .entry)) ⌝ }
+{
+    let prices = Prices {
+        linear,
+        quadratic,
+        missed,
+    };
+    let answer = planner::weigh(vehicles, stops, locations, distances, prices, plan);
+    hand_cost(answer, cost)
+}
+
+// Writes the start plan.
+#[no_mangle]
+pub extern "C" fn planner_start_plan(
+    vehicles: &[u32],
+    stops: &[u32],
+    locations: u32,
+    distances: &[u32],
+    plan: &mut [u32],
+) -> u32
+    ensures { λ r. ⌜ r ≡ saidByWritten (startAnswer (asking (jobOf (now (vehicles .entry)) (now (stops .entry)) locations (now (distances .entry)) unpriced) (now (plan .entry)) [])) .number ⌝ }
+    ensures { λ _. ⌜ now (plan .exit) ≡ planLeft StartPlan (asking (jobOf (now (vehicles .entry)) (now (stops .entry)) locations (now (distances .entry)) unpriced) (now (plan .entry)) []) ⌝ }
+{
+    match planner::start_plan(vehicles, stops, locations, distances, plan) {
+        Written::Refused(number) => number,
+        Written::Done => 0,
+    }
+}
+
+// Improves a plan by the two-opt move of one pair of stops, and weighs it.
+#[no_mangle]
+pub extern "C" fn planner_two_opt(
+    vehicles: &[u32],
+    stops: &[u32],
+    locations: u32,
+    distances: &[u32],
+    linear: u32,
+    quadratic: u32,
+    missed: u64,
+    plan: &mut [u32],
+    first: u32,
+    second: u32,
+    cost: &mut f64,
+) -> u32
+    ensures { λ r. ⌜ r ≡ saidByWeighed (costAnswer TwoOpt (asking (jobOf (now (vehicles .entry)) (now (stops .entry)) locations (now (distances .entry)) (priced linear quadratic missed)) (now (plan .entry)) (first ∷ second ∷ []))) .number ⌝ }
+    ensures { λ _. ⌜ now (cost .exit) ≡ costLeft (costAnswer TwoOpt (asking (jobOf (now (vehicles .entry)) (now (stops .entry)) locations (now (distances .entry)) (priced linear quadratic missed)) (now (plan .entry)) (first ∷ second ∷ []))) (now (cost .entry)) ⌝ }
+    ensures { λ _. ⌜ now (plan .exit) ≡ planLeft TwoOpt (asking (jobOf (now (vehicles .entry)) (now (stops .entry)) locations (now (distances .entry)) (priced linear quadratic missed)) (now (plan .entry)) (first ∷ second ∷ [])) ⌝ }
+{
+    let prices = Prices {
+        linear,
+        quadratic,
+        missed,
+    };
+    let answer = planner::two_opt(
+        vehicles,
+        stops,
+        locations,
+        distances,
+        prices,
+        plan,
+        first,
+        second,
+    );
+    hand_cost(answer, cost)
+}
+
+// Rebuilds a plan round one or two stops, and weighs it.
+#[no_mangle]
+pub extern "C" fn planner_rebuild(
+    vehicles: &[u32],
+    stops: &[u32],
+    locations: u32,
+    distances: &[u32],
+    linear: u32,
+    quadratic: u32,
+    missed: u64,
+    plan: &mut [u32],
+    given: &[u32],
+    cost: &mut f64,
+) -> u32
+    ensures { λ r. ⌜ r ≡ saidByWeighed (costAnswer Rebuild (asking (jobOf (now (vehicles .entry)) (now (stops .entry)) locations (now (distances .entry)) (priced linear quadratic missed)) (now (plan .entry)) (now (given .entry)))) .number ⌝ }
+    ensures { λ _. ⌜ now (cost .exit) ≡ costLeft (costAnswer Rebuild (asking (jobOf (now (vehicles .entry)) (now (stops .entry)) locations (now (distances .entry)) (priced linear quadratic missed)) (now (plan .entry)) (now (given .entry)))) (now (cost .entry)) ⌝ }
+    ensures { λ _. ⌜ now (plan .exit) ≡ planLeft Rebuild (asking (jobOf (now (vehicles .entry)) (now (stops .entry)) locations (now (distances .entry)) (priced linear quadratic missed)) (now (plan .entry)) (now (given .entry))) ⌝ }
+{
+    let prices = Prices {
+        linear,
+        quadratic,
+        missed,
+    };
+    let answer = planner::rebuild(vehicles, stops, locations, distances, prices, plan, given);
+    hand_cost(answer, cost)
+}
+
+// Writes the plan that the exhaustive solver chooses, and weighs it.
+#[no_mangle]
+pub extern "C" fn planner_exhaustive(
+    vehicles: &[u32],
+    stops: &[u32],
+    locations: u32,
+    distances: &[u32],
+    linear: u32,
+    quadratic: u32,
+    missed: u64,
+    plan: &mut [u32],
+    cost: &mut f64,
+) -> u32
+    ensures { λ r. ⌜ r ≡ saidByWeighed (costAnswer Exhaustive (asking (jobOf (now (vehicles .entry)) (now (stops .entry)) locations (now (distances .entry)) (priced linear quadratic missed)) (now (plan .entry)) [])) .number ⌝ }
+    ensures { λ _. ⌜ now (cost .exit) ≡ costLeft (costAnswer Exhaustive (asking (jobOf (now (vehicles .entry)) (now (stops .entry)) locations (now (distances .entry)) (priced linear quadratic missed)) (now (plan .entry)) [])) (now (cost .entry)) ⌝ }
+    ensures { λ _. ⌜ now (plan .exit) ≡ planLeft Exhaustive (asking (jobOf (now (vehicles .entry)) (now (stops .entry)) locations (now (distances .entry)) (priced linear quadratic missed)) (now (plan .entry)) []) ⌝ }
+{
+    let prices = Prices {
+        linear,
+        quadratic,
+        missed,
+    };
+    let answer = planner::exhaustive(vehicles, stops, locations, distances, prices, plan);
+    hand_cost(answer, cost)
+}
+
+// Writes the plan that the pruned solver chooses, and weighs it.
+#[no_mangle]
+pub extern "C" fn planner_pruned(
+    vehicles: &[u32],
+    stops: &[u32],
+    locations: u32,
+    distances: &[u32],
+    linear: u32,
+    quadratic: u32,
+    missed: u64,
+    plan: &mut [u32],
+    cost: &mut f64,
+) -> u32
+    ensures { λ r. ⌜ r ≡ saidByWeighed (costAnswer Pruned (asking (jobOf (now (vehicles .entry)) (now (stops .entry)) locations (now (distances .entry)) (priced linear quadratic missed)) (now (plan .entry)) [])) .number ⌝ }
+    ensures { λ _. ⌜ now (cost .exit) ≡ costLeft (costAnswer Pruned (asking (jobOf (now (vehicles .entry)) (now (stops .entry)) locations (now (distances .entry)) (priced linear quadratic missed)) (now (plan .entry)) [])) (now (cost .entry)) ⌝ }
+    ensures { λ _. ⌜ now (plan .exit) ≡ planLeft Pruned (asking (jobOf (now (vehicles .entry)) (now (stops .entry)) locations (now (distances .entry)) (priced linear quadratic missed)) (now (plan .entry)) []) ⌝ }
+{
+    let prices = Prices {
+        linear,
+        quadratic,
+        missed,
+    };
+    let answer = planner::pruned(vehicles, stops, locations, distances, prices, plan);
+    hand_cost(answer, cost)
+}
+
+// Runs the planner. The plan that is left keeps the promise about whole runs.
+#[no_mangle]
+pub extern "C" fn planner_solve(
+    vehicles: &[u32],
+    stops: &[u32],
+    locations: u32,
+    distances: &[u32],
+    linear: u32,
+    quadratic: u32,
+    missed: u64,
+    smoothing: u32,
+    limit: u32,
+    draws: &[u32],
+    plan: &mut [u32],
+    start: &mut f64,
+    end: &mut f64,
+    rounds: &mut u32,
+    improving: &mut u32,
+    settled: &mut u32,
+) -> u32
+    ensures { λ r. ⌜ r ≡ saidBySolved (solveAnswer (running (jobOf (now (vehicles .entry)) (now (stops .entry)) locations (now (distances .entry)) (priced linear quadratic missed)) smoothing limit (now (draws .entry)) (now (plan .entry)))) .number ⌝ }
+    ensures { λ _. ⌜ results (now (start .exit)) (now (end .exit)) (now (rounds .exit)) (now (improving .exit)) (now (settled .exit))
+        ≡ resultsLeft (solveAnswer (running (jobOf (now (vehicles .entry)) (now (stops .entry)) locations (now (distances .entry)) (priced linear quadratic missed)) smoothing limit (now (draws .entry)) (now (plan .entry)))) (results (now (start .entry)) (now (end .entry)) (now (rounds .entry)) (now (improving .entry)) (now (settled .entry))) ⌝ }
+    ensures { λ _. ⌜ now (plan .exit) ≡ planLeft Solve (running (jobOf (now (vehicles .entry)) (now (stops .entry)) locations (now (distances .entry)) (priced linear quadratic missed)) smoothing limit (now (draws .entry)) (now (plan .entry))) ⌝ }
+    ensures { λ _. ⌜ Keeps (running (jobOf (now (vehicles .entry)) (now (stops .entry)) locations (now (distances .entry)) (priced linear quadratic missed)) smoothing limit (now (draws .entry)) (now (plan .entry))) (solveAnswer (running (jobOf (now (vehicles .entry)) (now (stops .entry)) locations (now (distances .entry)) (priced linear quadratic missed)) smoothing limit (now (draws .entry)) (now (plan .entry)))) (now (plan .exit)) ⌝ }
+{
+    let prices = Prices {
+        linear,
+        quadratic,
+        missed,
+    };
+    let answer = planner::solve(
+        vehicles,
+        stops,
+        locations,
+        distances,
+        prices,
+        smoothing,
+        limit,
+        draws,
+        plan,
+    );
+    hand_totals(answer, start, end, rounds, improving, settled)
+}

@@ -1,0 +1,96 @@
+/* How much stack the calls need on large jobs: each runs on a thread whose stack was filled with one byte before, and what no longer
+ * holds that byte was used. The thread's own use is measured by an empty call and taken off. The fleet is the largest, and
+ * one vehicle alone: its long route has the longest stretches to rebuild. */
+#include <pthread.h>
+#include <stdio.h>
+#include <stdlib.h>
+#include <string.h>
+#include "planner.h"
+
+enum { ROOM = 1 << 20, FILL = 0xa5, VEHICLES = 16, STOPS = 64, LOCATIONS = 80, DRAWS = 1024 };
+
+static uint32_t vehicles[2 * VEHICLES], stops[STOPS], distances[LOCATIONS * LOCATIONS], draws[DRAWS], plan[VEHICLES + STOPS];
+static size_t fleet; /* how many of the vehicles drive */
+static uint32_t refused;
+#define LISTS(v, n) vehicles, 2 * (v), stops, (n), LOCATIONS, distances, LOCATIONS * LOCATIONS
+#define PRICES 1000, 1, 10000000000000
+
+static double cost;
+
+static void nothing(void) {}
+
+static void start_plan(void) { refused = planner_start_plan(LISTS(fleet, STOPS), plan, fleet + STOPS); }
+static void weigh(void) { refused = planner_weigh(LISTS(fleet, STOPS), PRICES, plan, fleet + STOPS, &cost); }
+static void two_opt(void) { refused = planner_two_opt(LISTS(fleet, STOPS), PRICES, plan, fleet + STOPS, 0, 1, &cost); }
+static size_t few(void) { return fleet == 1 ? 1 : 3; }
+static void exhaustive(void) { refused = planner_exhaustive(LISTS(few(), 6), PRICES, plan, few() + 6, &cost); }
+static void pruned(void) { refused = planner_pruned(LISTS(few(), 6), PRICES, plan, few() + 6, &cost); }
+
+static void rebuild(void)
+{
+    uint32_t given[] = {1, 0};
+    refused = planner_rebuild(LISTS(fleet, STOPS), PRICES, plan, fleet + STOPS, given, fleet == 1 ? 1 : 2, &cost);
+}
+
+static void solve(void)
+{
+    double start, end;
+    uint32_t rounds, improving, settled;
+    refused = planner_solve(LISTS(fleet, STOPS), PRICES, 10, 100, draws, DRAWS, plan, fleet + STOPS, &start, &end, &rounds, &improving, &settled);
+}
+
+static void *on_thread(void *call)
+{
+    (*(void (**)(void))call)();
+    return NULL;
+}
+
+/* the bytes of a stack of 1 MiB that a call touches */
+static size_t used(void (*call)(void))
+{
+    unsigned char *room;
+    pthread_attr_t attributes;
+    pthread_t thread;
+    size_t untouched = 0;
+    if (posix_memalign((void **)&room, 4096, ROOM) != 0)
+        abort();
+    memset(room, FILL, ROOM);
+    if (pthread_attr_init(&attributes) || pthread_attr_setstack(&attributes, room, ROOM) || pthread_create(&thread, &attributes, on_thread, &call) || pthread_join(thread, NULL))
+        abort();
+    while (untouched < ROOM && room[untouched] == FILL)
+        untouched++;
+    free(room);
+    return ROOM - untouched;
+}
+
+static void report(const char *name, void (*call)(void))
+{
+    const size_t fleets[] = {VEHICLES, 1};
+    for (size_t i = 0; i < 2; i++) {
+        fleet = fleets[i];
+        start_plan(); /* for the calls that read a plan */
+        size_t bytes = used(call) - used(nothing);
+        printf("%-10s fleet %2zu refused %u bytes %zu\n", name, fleet, refused, bytes);
+    }
+}
+
+int main(void)
+{
+    uint32_t x = 1;
+    for (size_t i = 0; i < LOCATIONS * LOCATIONS; i++)
+        distances[i] = (x = x * 1664525u + 1013904223u) % 200001;
+    for (size_t i = 0; i < DRAWS; i++)
+        draws[i] = x = x * 1664525u + 1013904223u;
+    for (size_t i = 0; i < 2 * VEHICLES; i++)
+        vehicles[i] = STOPS + i / 2;
+    for (size_t i = 0; i < STOPS; i++)
+        stops[i] = i;
+    report("start_plan", start_plan);
+    report("weigh", weigh);
+    report("two_opt", two_opt);
+    report("rebuild", rebuild);
+    report("exhaustive", exhaustive);
+    report("pruned", pruned);
+    report("solve", solve);
+    return 0;
+}

@@ -1,0 +1,130 @@
+/* The drive shuttle planner for hosts in C: the functions of the static library that `rt staticlib planner_ffi` writes to
+ * target/staticlib/libplanner_ffi.a (x86-64 Linux; it needs nothing but memcpy and memset).
+ *
+ * What every call promises (proved in crates/planner_ffi, as equations over the definitions of crates/model/specs):
+ * - It returns 0 where it accepts its arguments, and otherwise the lowest number of the table below that applies to them.
+ * - A call that is refused leaves every buffer and every result as it was.
+ * - A call that is accepted leaves in the plan and in its results what the definitions say, and nothing elsewhere.
+ * - It ends, on every input.
+ * It takes no memory but the stack, of which it used 48 KiB on large jobs (examples/hosts/c/stack.c measures it; it is not proved).
+ *
+ * What the host owes, since nothing can test it from inside: a pointer is not null (also where its length is 0) and is
+ * aligned for its type; a list's length is how many numbers lie behind its pointer; what is written (a plan that is not
+ * const, each result) overlaps nothing else that is passed; and nobody writes any of it until the call returns. A
+ * result may hold any number before. The library keeps no state, so calls may run side by side.
+ *
+ * A job is passed as
+ *   vehicles, vehicles_len     start, end, start, end and so on: location numbers, two for each of the v vehicles
+ *   stops, stops_len           the location number of each of the n stops
+ *   locations                  how many locations there are, l
+ *   distances, distances_len   the l by l table, row = from, column = to, row after row: whole metres
+ *   linear, quadratic, missed  the prices: for each metre of a route, for its square, for each stop on no route
+ * and a plan as v + n numbers: the v route lengths, then the stops of route 0, route 1 and so on, then PLANNER_UNUSED in each
+ * unused place.
+ *
+ * A cost is a whole number, exact in a double.
+ *
+ * Refusals:
+ *    1  vehicles_len odd or over 32             8  a price over its limit: 1000000, 16, 10000000000000
+ *    2  stops_len over 64                       9  smoothing outside 1 to 1000
+ *    3  locations over 80, or                  10  limit outside 1 to 1000000
+ *       distances_len not its square           11  a given plan not in plan form, or a stop twice
+ *    4  plan_len not v + n                     12  given stops not below n, equal, or (rebuild) not one or two
+ *    5  draws_len outside 1 to 1024            13  exhaustive or pruned with over 6 stops or 3 vehicles
+ *    6  a location number not below l
+ *    7  a distance over 200000
+ */
+#ifndef PLANNER_H
+#define PLANNER_H
+
+#include <stddef.h>
+#include <stdint.h>
+
+#ifdef __cplusplus
+extern "C" {
+#endif
+
+/* what stands in each place of a plan that no stop takes */
+#define PLANNER_UNUSED 4294967295u
+
+/* Weighs a plan. Writes its cost. */
+uint32_t planner_weigh(
+    const uint32_t *vehicles, size_t vehicles_len,
+    const uint32_t *stops, size_t stops_len,
+    uint32_t locations,
+    const uint32_t *distances, size_t distances_len,
+    uint32_t linear, uint32_t quadratic, uint64_t missed,
+    const uint32_t *plan, size_t plan_len,
+    double *cost);
+
+/* Writes the start plan: vehicles in turn, each to the nearest stop that is left. What the plan held is not read. */
+uint32_t planner_start_plan(
+    const uint32_t *vehicles, size_t vehicles_len,
+    const uint32_t *stops, size_t stops_len,
+    uint32_t locations,
+    const uint32_t *distances, size_t distances_len,
+    uint32_t *plan, size_t plan_len);
+
+/* Improves a plan by the two-opt move of the stops first and second. Writes the plan and its cost. */
+uint32_t planner_two_opt(
+    const uint32_t *vehicles, size_t vehicles_len,
+    const uint32_t *stops, size_t stops_len,
+    uint32_t locations,
+    const uint32_t *distances, size_t distances_len,
+    uint32_t linear, uint32_t quadratic, uint64_t missed,
+    uint32_t *plan, size_t plan_len,
+    uint32_t first, uint32_t second,
+    double *cost);
+
+/* Rebuilds a plan round one or two given stops. Writes the plan and its cost. */
+uint32_t planner_rebuild(
+    const uint32_t *vehicles, size_t vehicles_len,
+    const uint32_t *stops, size_t stops_len,
+    uint32_t locations,
+    const uint32_t *distances, size_t distances_len,
+    uint32_t linear, uint32_t quadratic, uint64_t missed,
+    uint32_t *plan, size_t plan_len,
+    const uint32_t *given, size_t given_len,
+    double *cost);
+
+/* Writes the best of all plans, for at most 6 stops and 3 vehicles, and its cost. What the plan held is not read. */
+uint32_t planner_exhaustive(
+    const uint32_t *vehicles, size_t vehicles_len,
+    const uint32_t *stops, size_t stops_len,
+    uint32_t locations,
+    const uint32_t *distances, size_t distances_len,
+    uint32_t linear, uint32_t quadratic, uint64_t missed,
+    uint32_t *plan, size_t plan_len,
+    double *cost);
+
+/* Writes the best of the plans that the pruned search reaches, for at most 6 stops and 3 vehicles, and its cost. What the
+ * plan held is not read. */
+uint32_t planner_pruned(
+    const uint32_t *vehicles, size_t vehicles_len,
+    const uint32_t *stops, size_t stops_len,
+    uint32_t locations,
+    const uint32_t *distances, size_t distances_len,
+    uint32_t linear, uint32_t quadratic, uint64_t missed,
+    uint32_t *plan, size_t plan_len,
+    double *cost);
+
+/* Runs the planner: the start plan, and rounds until the averages over `smoothing` rounds settle, `limit` rounds at most. The
+ * draws are read in order, and from their front again after the last. Writes the plan, the cost of the start plan and
+ * of the plan that is left, the rounds, those among them that improved the plan, and 1 for settled or 0 for cut by the
+ * limit. What the plan held is not read. */
+uint32_t planner_solve(
+    const uint32_t *vehicles, size_t vehicles_len,
+    const uint32_t *stops, size_t stops_len,
+    uint32_t locations,
+    const uint32_t *distances, size_t distances_len,
+    uint32_t linear, uint32_t quadratic, uint64_t missed,
+    uint32_t smoothing, uint32_t limit,
+    const uint32_t *draws, size_t draws_len,
+    uint32_t *plan, size_t plan_len,
+    double *start, double *end, uint32_t *rounds, uint32_t *improving, uint32_t *settled);
+
+#ifdef __cplusplus
+}
+#endif
+
+#endif
