@@ -31,8 +31,8 @@ use Rattle.gaps.specs.Stands.{headOf, beforeOf, Closable, Opens}
 use Rattle.gaps.specs.Sets.{Gathers}
 use Rattle.gaps.specs.Here.{Surveyed, Ground}
 use Rattle.gaps.proofs.Here.{plan-wide, plan-few, plan-lent, start-closable, here-start}
-use Rattle.arrange.specs.declared.Score.{Score}
-use Rattle.arrange.specs.Scores.{Kept, Walked}
+use Rattle.choice.specs.declared.Score.{Score}
+use Rattle.choice.specs.Scores.{Kept, Walked}
 use Rattle.arrange.specs.Walks.{Walkable}
 use Rattle.arrange.specs.Arranged.{Arrangeable, Begun, Arranged}
 
@@ -66,8 +66,8 @@ module _ (t : List ℕ) (v n : ℕ) (p : Prices) (xs regions : List ℕ) (A : Ar
     pub begin-fits : placed (planOf P gs []) ≤ n
     begin-fits = plan-few t v n p xs regions gaps begin-ground [] (drained P gs) empty-placing
 
-    module _ (scratch : List ℕ) (e : scratch ≡ encode n (planOf P gs [])) where
-      pub begin-ready : Ready t v n p scratch
+    module _ (other : List ℕ) (e : other ≡ encode n (planOf P gs [])) where
+      pub begin-ready : Ready t v n p other
       begin-ready = record {
         legs = A .legs;
         sizes = A .gapped .sizes;
@@ -82,9 +82,9 @@ module _ (t : List ℕ) (v n : ℕ) (p : Prices) (xs regions : List ℕ) (A : Ar
         pub begin-openable : Closable t gaps 0 p (headOf gaps 0) (beforeOf gaps 0)
         begin-openable = start-closable t v n p xs regions gaps begin-ground [] (drained P gs) empty-placing 0 first (empty-gap 0)
 
-        pub begun : (c : Float) → Drives t v n p (decode v scratch) c → (st : Stand) → Opens t gaps 0 p c st → Begun t v n p xs regions gaps st
+        pub begun : (c : Float) → Drives t v n p (decode v other) c → (st : Stand) → Opens t gaps 0 p c st → Begun t v n p xs regions gaps st
         begun c D st O =
-            let d : decode v scratch ≡ planOf P gs [] =
+            let d : decode v other ≡ planOf P gs [] =
             ap (decode v) e ∙ decode-encode n (planOf P gs []) v (plan-wide t v n p xs regions gaps begin-ground [] (drained P gs) empty-placing)
             in
             record {
@@ -128,10 +128,10 @@ module _ (t : List ℕ) (v n : ℕ) (p : Prices) (xs regions : List ℕ) (A : Ar
         )
 
     pub start-walkable : (gaps : List ℕ) (st : Stand) → Begun t v n p xs regions gaps st → (all : ℕ) → all ≡ placed P
-        → (codes : List ℕ) → length codes ≡ 7 → (scratch : List ℕ) → length scratch ≡ v + n → (best : List ℕ) (s : Score) → Kept t v n p best s → s .count ≡ 0
-        → Walkable t v n p xs regions gaps all left 0 st codes 0 scratch best s (plansFrom P gs (take 0 codes) (stopsOf left) 0)
+        → (codes : List ℕ) → length codes ≡ 7 → (best : List ℕ) (s : Score) → Kept t v n p best s → s .count ≡ 0
+        → Walkable t v n p xs regions gaps all left 0 st codes 0 best s (plansFrom P gs (take 0 codes) (stopsOf left) 0)
     unfolding L
-    start-walkable gaps st B all ea codes lc scratch ls best s K e0 = record {
+    start-walkable gaps st B all ea codes lc best s K e0 = record {
       ground = B .ground;
       placed = ea;
       here = record {
@@ -146,7 +146,6 @@ module _ (t : List ℕ) (v n : ℕ) (p : Prices) (xs regions : List ℕ) (A : Ar
       };
       room = omega (arith, length-kept L (drained P gs) same, A .few);
       short = lc;
-      scratched = ls;
       kept = K;
       few = omega (arith, few, e0);
     }

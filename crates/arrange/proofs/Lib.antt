@@ -1,6 +1,5 @@
-pub mod Tests
-pub mod Considered
-pub mod Underway
+pub mod Alone
 pub mod Spreading
 pub mod Walking
+pub mod Last
 pub mod Arranging

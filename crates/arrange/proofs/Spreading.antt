@@ -14,7 +14,7 @@ use Rattle.model.specs.Plan.{Plan, decode}
 use Rattle.model.specs.Region.{Region}
 use Rattle.model.proofs.Lists.{one-same}
 use Rattle.stop_set.specs.Answers.{First}
-use Rattle.stop_set.proofs.Laws.{stops-none, taken-list, taken-size, first-less}
+use Rattle.stop_set.proofs.Laws.{taken-list, taken-size, first-less}
 use Rattle.words.specs.Words.{Word, code, plansFrom, plansAt}
 use Rattle.words.specs.Gaps.{regionsOf}
 use Rattle.words.proofs.Walks.{plans-stop, plans-none}
@@ -22,25 +22,24 @@ use Rattle.gaps.specs.declared.Stand.{Stand}
 use Rattle.gaps.specs.Stands.{Steps}
 use Rattle.gaps.specs.Here.{Here}
 use Rattle.gaps.proofs.Here.{here-further}
-use Rattle.arrange.specs.declared.Score.{Score}
-use Rattle.arrange.specs.Scores.{Walked}
+use Rattle.choice.specs.declared.Score.{Score}
+use Rattle.choice.specs.Scores.{Walked}
 use Rattle.arrange.specs.Walks.{Walkable}
-use Rattle.arrange.proofs.Underway.{Underway, underway-start, underway-more, underway-count, underway-end}
+use Rattle.choice.proofs.Underway.{Underway, underway-start, underway-more, underway-count, underway-end}
 
 -- the stops of `rest` are still to be placed
-pub record Spreading (t : List ℕ) (v n : ℕ) (p : Prices) (xs regions : List ℕ) (left q : ℕ) (codes₀ : List ℕ) (m : ℕ) (scratch₀ best₀ : List ℕ) (s₀ : Score)
-    (codes scratch best : List ℕ) (s : Score) (rest : ℕ) : Type 0 where
+pub record Spreading (t : List ℕ) (v n : ℕ) (p : Prices) (xs regions : List ℕ) (left q : ℕ) (codes₀ : List ℕ) (m : ℕ) (best₀ : List ℕ) (s₀ : Score)
+    (codes best : List ℕ) (s : Score) (rest : ℕ) : Type 0 where
   pub under : Underway t v n p (plansAt (decode v xs) (regionsOf regions) (take m codes₀) (stopsOf left) q (stopsOf left))
       (plansAt (decode v xs) (regionsOf regions) (take m codes₀) (stopsOf left) q (stopsOf rest)) best₀ s₀ best s
   pub among : (x : ℕ) → 1 ≤ count x (stopsOf rest) → 1 ≤ count x (stopsOf left)
   pub same : take m codes ≡ take m codes₀
   pub long : length codes ≡ length codes₀
-  pub scratched : length scratch ≡ length scratch₀
   pub bests : length best ≡ length best₀
 
-module _ (t : List ℕ) (v n : ℕ) (p : Prices) (xs regions gaps : List ℕ) (all left q : ℕ) (st : Stand) (codes₀ : List ℕ) (m : ℕ) (scratch₀ best₀ : List ℕ)
-    (s₀ : Score)
-    (W : Walkable t v n p xs regions gaps all left q st codes₀ m scratch₀ best₀ s₀
+module _ {t : List ℕ} {v n : ℕ} {p : Prices} {xs regions gaps : List ℕ} {all left q : ℕ} {st : Stand} {codes₀ : List ℕ} {m : ℕ} {best₀ : List ℕ}
+    {s₀ : Score}
+    (W : Walkable t v n p xs regions gaps all left q st codes₀ m best₀ s₀
     (plansAt (decode v xs) (regionsOf regions) (take m codes₀) (stopsOf left) q (stopsOf left))) where
   abbrev P : Plan
   P = decode v xs
@@ -51,25 +50,24 @@ module _ (t : List ℕ) (v n : ℕ) (p : Prices) (xs regions gaps : List ℕ) (a
   abbrev w : Word
   w = take m codes₀
 
-  pub spreading-start : Spreading t v n p xs regions left q codes₀ m scratch₀ best₀ s₀ codes₀ scratch₀ best₀ s₀ left
+  pub spreading-start : Spreading t v n p xs regions left q codes₀ m best₀ s₀ codes₀ best₀ s₀ left
   spreading-start = record {
     under = underway-start t v n p (plansAt P gs w (stopsOf left) q (stopsOf left)) best₀ s₀ (W .kept);
     among = λ x h. h;
     same = refl;
     long = refl;
-    scratched = refl;
     bests = refl;
   }
 
-  module _ (codes scratch best : List ℕ) (f : Score) (rest : ℕ) (S : Spreading t v n p xs regions left q codes₀ m scratch₀ best₀ s₀ codes scratch best f rest) where
-    pub spreading-end : rest ≡ 0
+  module _ {codes best : List ℕ} {f : Score} {rest : ℕ} (S : Spreading t v n p xs regions left q codes₀ m best₀ s₀ codes best f rest) where
+    pub spreading-end : stopsOf rest ≡ []
         → Walked t v n p (plansAt P gs w (stopsOf left) q (stopsOf left)) best₀ s₀ best f
     spreading-end e =
         underway-end t v n p (plansAt P gs w (stopsOf left) q (stopsOf left)) best₀ s₀ (plansAt P gs w (stopsOf left) q (stopsOf rest)) best f (S .under)
-        (ap (λ (r : ℕ). plansAt P gs w (stopsOf left) q (stopsOf r)) e ∙ ap (plansAt P gs w (stopsOf left) q) stops-none ∙ plans-none P gs w (stopsOf left) q)
+        (ap (plansAt P gs w (stopsOf left) q) e ∙ plans-none P gs w (stopsOf left) q)
 
     -- a turn: stop s is placed
-    module _ (s : ℕ) (F : First rest s) where
+    module _ {s : ℕ} (F : First rest s) where
       pub turn-there : 1 ≤ count s (stopsOf left)
       turn-there = S .among s (omega (arith, ap (count s) (F .list), one-same s s refl))
 
@@ -77,11 +75,11 @@ module _ (t : List ℕ) (v n : ℕ) (p : Prices) (xs regions gaps : List ℕ) (a
       pub turn-room : m < length codes
       turn-room = omega (arith, W .room, W .short, S .long, taken-size left s (excluding s left) turn-there refl)
 
-      pub turn-fewer : (fewer : ℕ) → fewer ≡ excluding s left → length (stopsOf fewer) < length (stopsOf left)
-      turn-fewer fewer e = omega (arith, taken-size left s fewer turn-there e)
+      pub turn-fewer : {fewer : ℕ} → fewer ≡ excluding s left → length (stopsOf fewer) < length (stopsOf left)
+      turn-fewer {fewer} e = omega (arith, taken-size left s fewer turn-there e)
 
-      pub turn-less : (rest′ : ℕ) → rest′ ≡ excluding s rest → length (stopsOf rest′) < length (stopsOf rest)
-      turn-less rest′ e = first-less rest s rest′ F e
+      pub turn-less : {rest′ : ℕ} → rest′ ≡ excluding s rest → length (stopsOf rest′) < length (stopsOf rest)
+      turn-less {rest′} e = first-less rest s rest′ F e
 
       placed : take (m + 1) (set codes m (code q s)) ≡ w ++ code q s ∷ []
       placed =
@@ -89,7 +87,7 @@ module _ (t : List ℕ) (v n : ℕ) (p : Prices) (xs regions gaps : List ℕ) (a
           ∙ take-suc-set codes m (code q s) turn-room
           ∙ ap (λ (x : List ℕ). x ++ code q s ∷ []) (S .same)
 
-      module _ (fewer : ℕ) (ef : fewer ≡ excluding s left) where
+      module _ {fewer : ℕ} (ef : fewer ≡ excluding s left) where
         others : stopsOf fewer ≡ without s (stopsOf left)
         others = taken-list left s fewer turn-there ef
 
@@ -115,31 +113,30 @@ module _ (t : List ℕ) (v n : ℕ) (p : Prices) (xs regions gaps : List ℕ) (a
             )
 
         -- the call
-        pub turn-call : (next : Stand) → Steps t st s next
-            → Walkable t v n p xs regions gaps all fewer q next (set codes m (code q s)) (m + 1) scratch best f
+        pub turn-call : {next : Stand} → Steps t st s next
+            → Walkable t v n p xs regions gaps all fewer q next (set codes m (code q s)) (m + 1) best f
             (plansFrom P gs (take (m + 1) (set codes m (code q s))) (stopsOf fewer) q)
         unfolding this
-        turn-call next st′ = record {
+        turn-call {next} st′ = record {
           ground = W .ground;
           placed = W .placed;
           here =
               subst (λ (x : Word). Here t v p xs regions x (stopsOf fewer) q next) (sym placed)
               (rw others (here-further t v n p xs regions gaps (W .ground) w (stopsOf left) q st (W .here) s (F .small) turn-there next st′));
-          room = omega (arith, W .room, turn-fewer fewer ef);
+          room = omega (arith, W .room, turn-fewer ef);
           short = length-set codes m (code q s) ∙ S .long ∙ W .short;
-          scratched = S .scratched ∙ W .scratched;
           kept = S .under .walked .kept;
           few = few;
         }
 
         -- and what it leaves
-        pub turn-after : (codes′ scratch′ best′ : List ℕ) (f′ : Score) (rest′ : ℕ) → rest′ ≡ excluding s rest
+        pub turn-after : (codes′ : List ℕ) {best′ : List ℕ} {f′ : Score} {rest′ : ℕ} → rest′ ≡ excluding s rest
             → Walked t v n p (plansFrom P gs (take (m + 1) (set codes m (code q s))) (stopsOf fewer) q) best f best′ f′
             → take (m + 1) codes′ ≡ take (m + 1) (set codes m (code q s)) → length codes′ ≡ length (set codes m (code q s))
-            → length scratch′ ≡ length scratch → length best′ ≡ length best
-            → Spreading t v n p xs regions left q codes₀ m scratch₀ best₀ s₀ codes′ scratch′ best′ f′ rest′
+            → length best′ ≡ length best
+            → Spreading t v n p xs regions left q codes₀ m best₀ s₀ codes′ best′ f′ rest′
         unfolding this
-        turn-after codes′ scratch′ best′ f′ rest′ er K ec lc ls lb = record {
+        turn-after codes′ {best′} {f′} {rest′} er K ec lc lb = record {
           under =
               underway-more t v n p (plansAt P gs w (stopsOf left) q (stopsOf left)) best₀ s₀ (plansAt P gs w (stopsOf left) q (stopsOf rest)) best f (S .under)
               this (plansAt P gs w (stopsOf left) q (stopsOf rest′)) (split rest′ er) best′ f′ K;
@@ -151,6 +148,5 @@ module _ (t : List ℕ) (v n : ℕ) (p : Prices) (xs regions gaps : List ℕ) (a
               ∙ take-set-le m codes m (code q s) (le-refl m)
               ∙ S .same;
           long = lc ∙ length-set codes m (code q s) ∙ S .long;
-          scratched = ls ∙ S .scratched;
           bests = lb ∙ S .bests;
         }

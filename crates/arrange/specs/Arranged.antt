@@ -14,8 +14,8 @@ use Rattle.model.specs.Rebuild.{fillings, arrangements, choose}
 use Rattle.words.specs.Gaps.{regionsOf, Gapped}
 use Rattle.gaps.specs.declared.Stand.{Stand}
 use Rattle.gaps.specs.Here.{Ground, Here}
-use Rattle.arrange.specs.declared.Score.{Score}
-use Rattle.arrange.specs.Scores.{Kept}
+use Rattle.choice.specs.declared.Score.{Score}
+use Rattle.choice.specs.Scores.{Kept}
 
 -- a plan with up to three regions, which drain at most seven stops
 pub record Arrangeable (t : List ℕ) (v n : ℕ) (p : Prices) (xs regions : List ℕ) : Type 0 where

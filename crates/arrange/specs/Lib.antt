@@ -1,4 +1,3 @@
 -- What the contracts of this crate cite beside the definitions of `model`.
-pub mod Scores
 pub mod Walks
 pub mod Arranged

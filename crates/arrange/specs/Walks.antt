@@ -8,17 +8,16 @@ use Rattle.model.specs.StopSet.{stopsOf}
 use Rattle.model.specs.Plan.{Plan, placed, decode}
 use Rattle.gaps.specs.declared.Stand.{Stand}
 use Rattle.gaps.specs.Here.{Ground, Here}
-use Rattle.arrange.specs.declared.Score.{Score}
-use Rattle.arrange.specs.Scores.{Kept}
+use Rattle.choice.specs.declared.Score.{Score}
+use Rattle.choice.specs.Scores.{Kept}
 
 -- The walk stands at the word of the first m placements in gap q, and is to visit the plans Ps.
 pub record Walkable (t : List ℕ) (v n : ℕ) (p : Prices) (xs regions gaps : List ℕ) (all left q : ℕ) (st : Stand) (codes : List ℕ) (m : ℕ)
-    (scratch best : List ℕ) (s : Score) (Ps : List Plan) : Type 0 where
+    (best : List ℕ) (s : Score) (Ps : List Plan) : Type 0 where
   pub ground : Ground t v n p xs regions gaps
   pub placed : all ≡ placed (decode v xs)
   pub here : Here t v p xs regions (take m codes) (stopsOf left) q st
   pub room : m + length (stopsOf left) ≤ 7
   pub short : length codes ≡ 7
-  pub scratched : length scratch ≡ v + n
   pub kept : Kept t v n p best s
   pub few : s .count + length Ps < 2 ^ 64

@@ -1,129 +1,153 @@
 // All arrangements of some stops in up to three gaps of a plan, and the best of them.
 ghost use mathlib.Core.Path.{_≡_};
-ghost use Prim.Native.Nat.{ℕ, _+_, _-_, _^_, _≤_, _<_};
-ghost use mathlib.Core.Bool.{_||_};
-ghost use mathlib.Core.List.{[], _∷_};
+ghost use Prim.Native.Nat.{_+_, _≤_, _<_};
 ghost use lib.ListN.{length, take};
-ghost use Rattle.model.specs.Lists.{lower};
 ghost use Rattle.model.specs.StopSet.{stopsOf};
-ghost use Rattle.model.specs.Whole.{IsWhole, amount};
-ghost use Rattle.model.specs.Plan.{placed, decode, Lent};
-ghost use Rattle.words.specs.Gaps.{regionsOf, Gapped};
+ghost use Rattle.model.specs.Plan.{decode};
+ghost use Rattle.words.specs.Gaps.{regionsOf};
 ghost use Rattle.words.specs.Words.{plansFrom, plansAt};
-ghost use Rattle.gaps.specs.Stands.{Closable};
-ghost use Rattle.gaps.specs.Here.{planAt};
-ghost use Rattle.arrange.specs.Scores.{loses, Weighs, Comparable, Considered, Walked};
+ghost use Rattle.choice.specs.Scores.{Walked};
 ghost use Rattle.arrange.specs.Walks.{Walkable};
 ghost use Rattle.arrange.specs.Arranged.{Arrangeable, Begun, Arranged};
+use choice::Score;
 use gaps::Stand;
 use model::Prices;
 
-// The best plan's cost and the number of stops that it places, and how many arrangements were counted.
-pub struct Score {
-    pub cost: f64,
-    pub placed: u32,
-    pub count: u64,
-}
-
-// What an arrangement weighs: its routes, these with the missed stops, and the number of stops that it places.
-pub struct Weight {
-    pub driving: f64,
-    pub cost: f64,
-    pub placed: u32,
-}
-
-// Whether a plan loses to another by its cost, or costs the same and loses by the stops that it places.
-fn behind(cost: f64, placed: u32, other: f64, more: u32) -> bool
-    requires { ⌜ IsWhole cost × IsWhole other ⌝ }
-    ensures { λ r. ⌜ r ≡ loses (amount cost) placed (amount other) more ⌝ }
+// How many stops are left, where no more than one is.
+fn one_or_none(left: u64) -> u32
+    requires { ⌜ length (stopsOf left) ≤ 1 ⌝ }
+    ensures { λ r. ⌜ r ≡ length (stopsOf left) ⌝ }
 {
-    if whole::cheaper(other, cost) {
-        return true;
+    if left == 0 {
+        return 0;
     }
-    if whole::same(other, cost) {
-        return placed < more;
-    }
-    false
+    1
 }
 
-// Whether a plan that does not lose to the best so far takes its place.
-fn ahead(cost: f64, placed: u32, plan: &[u32], best: &[u32], score: Score) -> bool
-    requires { ⌜ IsWhole cost × IsWhole (score .cost) × (length (now plan) ≡ length (now best)) ⌝ }
-    ensures { λ r. ⌜ r ≡ (loses (amount (score .cost)) (score .placed) (amount cost) placed || lower (now (plan .entry)) (now (best .entry))) ⌝ }
-{
-    if behind(score.cost, score.placed, cost, placed) {
-        return true;
-    }
-    solution::lower(plan, best)
-}
-
-// What the arrangement weighs that a walk stands at in gap q, where `left` of `all` stops are on no route.
-fn weigh(
+// Places the one stop that is left at the end of gap q, and meets that arrangement, after which none is left.
+fn place_last(
     legs: &[u32],
-    gaps: &[u32],
-    q: usize,
-    n: usize,
-    prices: Prices,
-    all: u32,
-    left: u32,
-    stand: Stand,
-) -> Weight
-    requires { ⌜ Closable (now legs) (now gaps) q prices (stand .length) (stand .last) ⌝ }
-    requires { ⌜ (left ≤ all) × (all ≤ n) × (n ≤ 64) ⌝ }
-    ensures { λ r. ⌜ Weighs (now (legs .entry)) (now (gaps .entry)) q n prices all left stand r ⌝ }
-{
-    let driving = gaps::close(legs, gaps, q, prices, stand);
-    let placed = all - left;
-    let cost = driving + delivery::missed_cost(n as u32 - placed, prices);
-    Weight {
-        driving,
-        cost,
-        placed,
-    }
-}
-
-// Compares the plan of a word, which costs `cost` and places so many stops, with the best so far. Only a plan that takes the
-// best one's place is written there.
-fn consider(
     v: usize,
     n: usize,
+    prices: Prices,
     plan: &[u32],
     regions: &[u32],
-    word: &[u32],
-    cost: f64,
-    stops: u32,
-    scratch: &mut [u32],
+    gaps: &[u32],
+    all: u32,
+    left: u64,
+    q: usize,
+    stand: Stand,
+    codes: &mut [u32],
+    m: usize,
     best: &mut [u32],
     score: Score,
 ) -> Score
-    requires { ⌜ Comparable v n (now plan) (now regions) (now word) cost (now scratch) (now best) score ⌝ }
-    ensures { λ r. ⌜ Considered v n (planAt v (now (plan .entry)) (now (regions .entry)) (now (word .entry))) cost stops (now (best .entry)) score (now (best .exit)) r ⌝ }
+    requires { ⌜ Walkable (now legs) v n prices (now plan) (now regions) (now gaps) all left q stand (now codes) m (now best) score
+        (plansAt (decode v (now plan)) (regionsOf (now regions)) (take m (now codes)) (stopsOf left) q (stopsOf left)) ⌝ }
+    requires { ⌜ length (stopsOf left) ≡ 1 ⌝ }
+    ensures { λ r. ⌜ Walked (now (legs .entry)) v n prices
+        (plansAt (decode v (now (plan .entry))) (regionsOf (now (regions .entry))) (take m (now (codes .entry))) (stopsOf left) q (stopsOf left))
+        (now (best .entry)) score (now (best .exit)) r ⌝ }
+    ensures { λ _. ⌜ take m (now (codes .exit)) ≡ take m (now (codes .entry)) ⌝ }
 {
-    let count = score.count + 1;
-    if behind(cost, stops, score.cost, score.placed) {
-        return Score {
-            cost: score.cost,
-            placed: score.placed,
-            count,
-        };
-    }
-    words::compose(plan, v, n, regions, word, scratch);
-    if ahead(cost, stops, scratch, best, score) {
-        joining::copy_plan(scratch, best);
-        return Score {
-            cost,
-            placed: stops,
-            count,
-        };
-    }
-    Score {
-        cost: score.cost,
-        placed: score.placed,
-        count,
-    }
+    let last = stop_set::lowest(left);
+    codes[m] = q as u32 * 64 + last;
+    let next = gaps::step(legs, stand, last);
+    let e = m + 1;
+    let filled = choice::meet(
+        legs,
+        v,
+        n,
+        prices,
+        plan,
+        regions,
+        gaps,
+        all,
+        0,
+        q,
+        next,
+        &codes[..e],
+        best,
+        score,
+    );
+    filled.score
 }
 
-// Places each of the stops that are left at the end of gap q in turn, and calls the walk on those that are left then.
+// The walk where at most one stop is left: after the arrangement that it stands at come only those with that stop in a gap from q on.
+fn finish(
+    legs: &[u32],
+    v: usize,
+    n: usize,
+    prices: Prices,
+    plan: &[u32],
+    regions: &[u32],
+    gaps: &[u32],
+    all: u32,
+    left: u64,
+    q: usize,
+    stand: Stand,
+    codes: &mut [u32],
+    m: usize,
+    best: &mut [u32],
+    score: Score,
+) -> Score
+    requires { ⌜ Walkable (now legs) v n prices (now plan) (now regions) (now gaps) all left q stand (now codes) m (now best) score
+        (plansFrom (decode v (now plan)) (regionsOf (now regions)) (take m (now codes)) (stopsOf left) q) ⌝ }
+    requires { ⌜ length (stopsOf left) ≤ 1 ⌝ }
+    ensures { λ r. ⌜ Walked (now (legs .entry)) v n prices
+        (plansFrom (decode v (now (plan .entry))) (regionsOf (now (regions .entry))) (take m (now (codes .entry))) (stopsOf left) q)
+        (now (best .entry)) score (now (best .exit)) r ⌝ }
+    ensures { λ _. ⌜ take m (now (codes .exit)) ≡ take m (now (codes .entry)) ⌝ }
+{
+    let unplaced = one_or_none(left);
+    let own = choice::meet(
+        legs,
+        v,
+        n,
+        prices,
+        plan,
+        regions,
+        gaps,
+        all,
+        unplaced,
+        q,
+        stand,
+        &codes[..m],
+        best,
+        score,
+    );
+    let mut found = own.score;
+    if unplaced == 0 {
+        return found;
+    }
+    let driving = own.driving;
+    let mut gap = q;
+    while 3 * gap < regions.len() {
+        let here = gaps::resume(legs, gaps, q, gap, prices, driving, stand);
+        found = place_last(
+            legs,
+            v,
+            n,
+            prices,
+            plan,
+            regions,
+            gaps,
+            all,
+            left,
+            gap,
+            here,
+            codes,
+            m,
+            best,
+            found,
+        );
+        gap += 1;
+    }
+    found
+}
+
+// Places each of the stops that are left at the end of gap q in turn, and calls the walk on those that are left then. Where one or none
+// is left then, the walk is finished without a further call of this function: most arrangements have every stop placed, or all but one.
 fn spread(
     legs: &[u32],
     v: usize,
@@ -138,17 +162,17 @@ fn spread(
     stand: Stand,
     codes: &mut [u32],
     m: usize,
-    scratch: &mut [u32],
     best: &mut [u32],
     score: Score,
 ) -> Score
-    requires { ⌜ Walkable (now legs) v n prices (now plan) (now regions) (now gaps) all left q stand (now codes) m (now scratch) (now best) score
+    requires { ⌜ Walkable (now legs) v n prices (now plan) (now regions) (now gaps) all left q stand (now codes) m (now best) score
         (plansAt (decode v (now plan)) (regionsOf (now regions)) (take m (now codes)) (stopsOf left) q (stopsOf left)) ⌝ }
     ensures { λ r. ⌜ Walked (now (legs .entry)) v n prices
         (plansAt (decode v (now (plan .entry))) (regionsOf (now (regions .entry))) (take m (now (codes .entry))) (stopsOf left) q (stopsOf left))
         (now (best .entry)) score (now (best .exit)) r ⌝ }
     ensures { λ _. ⌜ take m (now (codes .exit)) ≡ take m (now (codes .entry)) ⌝ }
 {
+    let few = stop_set::size(left);
     let mut found = score;
     let mut rest = left;
     while rest != 0 {
@@ -157,29 +181,49 @@ fn spread(
         codes[m] = q as u32 * 64 + s;
         let next = gaps::step(legs, stand, s);
         let fewer = stop_set::without(left, s);
-        found = walk(
-            legs,
-            v,
-            n,
-            prices,
-            plan,
-            regions,
-            gaps,
-            all,
-            fewer,
-            q,
-            next,
-            codes,
-            m + 1,
-            scratch,
-            best,
-            found,
-        );
+        let e = m + 1;
+        if few < 3 {
+            found = finish(
+                legs,
+                v,
+                n,
+                prices,
+                plan,
+                regions,
+                gaps,
+                all,
+                fewer,
+                q,
+                next,
+                codes,
+                e,
+                best,
+                found,
+            );
+        } else {
+            found = walk(
+                legs,
+                v,
+                n,
+                prices,
+                plan,
+                regions,
+                gaps,
+                all,
+                fewer,
+                q,
+                next,
+                codes,
+                e,
+                best,
+                found,
+            );
+        }
     }
     found
 }
 
-// Weighs the arrangement that the first m placements stand for, and then has each stop that is left placed in each gap from q on.
+// Meets the arrangement that the first m placements stand for, and then has each stop that is left placed in each gap from q on.
 fn walk(
     legs: &[u32],
     v: usize,
@@ -194,11 +238,10 @@ fn walk(
     stand: Stand,
     codes: &mut [u32],
     m: usize,
-    scratch: &mut [u32],
     best: &mut [u32],
     score: Score,
 ) -> Score
-    requires { ⌜ Walkable (now legs) v n prices (now plan) (now regions) (now gaps) all left q stand (now codes) m (now scratch) (now best) score
+    requires { ⌜ Walkable (now legs) v n prices (now plan) (now regions) (now gaps) all left q stand (now codes) m (now best) score
         (plansFrom (decode v (now plan)) (regionsOf (now regions)) (take m (now codes)) (stopsOf left) q) ⌝ }
     ensures { λ r. ⌜ Walked (now (legs .entry)) v n prices
         (plansFrom (decode v (now (plan .entry))) (regionsOf (now (regions .entry))) (take m (now (codes .entry))) (stopsOf left) q)
@@ -206,20 +249,24 @@ fn walk(
     ensures { λ _. ⌜ take m (now (codes .exit)) ≡ take m (now (codes .entry)) ⌝ }
 {
     let unplaced = stop_set::size(left);
-    let w = weigh(legs, gaps, q, n, prices, all, unplaced, stand);
-    let driving = w.driving;
-    let mut found = consider(
+    let met = choice::meet(
+        legs,
         v,
         n,
+        prices,
         plan,
         regions,
+        gaps,
+        all,
+        unplaced,
+        q,
+        stand,
         &codes[..m],
-        w.cost,
-        w.placed,
-        scratch,
         best,
         score,
     );
+    let driving = met.driving;
+    let mut found = met.score;
     let mut r = q;
     while 3 * r < regions.len() {
         let here = gaps::resume(legs, gaps, q, r, prices, driving, stand);
@@ -237,7 +284,6 @@ fn walk(
             here,
             codes,
             m,
-            scratch,
             best,
             found,
         );
@@ -315,7 +361,6 @@ fn visit(
         stand,
         codes,
         0,
-        scratch,
         best,
         score,
     )

@@ -18,7 +18,7 @@ use Rattle.model.proofs.Members.{In}
 use Rattle.model.proofs.Regions.{Stretch, Stretches}
 use Rattle.model.proofs.PlanForm.{decode-encode, lent-encode}
 use Rattle.words.specs.Gaps.{regionsOf}
-use Rattle.arrange.specs.declared.Score.{Score}
+use Rattle.choice.specs.declared.Score.{Score}
 use Rattle.arrange.specs.Arranged.{Arrangeable, Arranged}
 use Rattle.exact.specs.Full.{fullPlan, fullRegions, Given}
 use Rattle.exact.proofs.Arranging.{regions-each, length-full, once-full, below-full, drained-full, full-chosen}

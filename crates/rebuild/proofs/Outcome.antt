@@ -10,7 +10,7 @@ use Rattle.model.specs.declared.Prices.{Prices}
 use Rattle.delivery.specs.Costs.{Ready}
 use Rattle.regions.specs.Reading.{readRegions}
 use Rattle.words.specs.Gaps.{regionsOf}
-use Rattle.arrange.specs.declared.Score.{Score}
+use Rattle.choice.specs.declared.Score.{Score}
 use Rattle.arrange.specs.Arranged.{Arrangeable, Arranged}
 use Rattle.rebuild.specs.Rebuilt.{Rebuilt}
 use Rattle.rebuild.proofs.Regions.{regions-few, regions-same, regions-gapped, regions-drained}

@@ -4,7 +4,7 @@ ghost use lib.ListN.{length};
 ghost use Rattle.delivery.specs.Costs.{Ready};
 ghost use Rattle.arrange.specs.Arranged.{Arrangeable, Arranged};
 ghost use Rattle.rebuild.specs.Rebuilt.{Rebuilt};
-use arrange::Score;
+use choice::Score;
 use model::Prices;
 
 // Writes the best arrangement of the stops of some regions over the plan that has them.

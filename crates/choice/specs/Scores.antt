@@ -20,8 +20,8 @@ use Rattle.words.specs.Gaps.{Gapped}
 use Rattle.gaps.specs.Stands.{Closes}
 use Rattle.gaps.specs.Here.{planAt}
 use Rattle.gaps.specs.declared.Stand.{Stand}
-use Rattle.arrange.specs.declared.Score.{Score}
-use Rattle.arrange.specs.declared.Weight.{Weight}
+use Rattle.choice.specs.declared.Score.{Score}
+use Rattle.choice.specs.declared.Weight.{Weight}
 
 -- whether a plan that costs a and places p stops loses to one that costs b and places q stops, by that alone
 abbrev pub loses : ℕ → ℕ → ℕ → ℕ → Bool
@@ -34,13 +34,12 @@ pub record Weighs (t gaps : List ℕ) (q n : ℕ) (p : Prices) (all left : ℕ) 
   pub cost : (d : ℕ) → w .driving ≡ whole d → d + missedCost p (n - w .placed) ≤ exact → w .cost ≡ whole (d + missedCost p (n - w .placed))
 
 -- what is asked to compare the plan of a word, which costs c, with the best so far
-pub record Comparable (v n : ℕ) (xs regions : List ℕ) (w : Word) (c : Float) (scratch best : List ℕ) (s : Score) : Type 0 where
+pub record Comparable (v n : ℕ) (xs regions : List ℕ) (w : Word) (c : Float) (best : List ℕ) (s : Score) : Type 0 where
   pub gapped : Gapped v n xs regions
   pub fits : placed (planAt v xs regions w) ≤ n
   pub cost : IsWhole c
   pub known : IsWhole (s .cost)
   pub few : s .count + 1 < 2 ^ 64
-  pub scratched : length scratch ≡ v + n
   pub lent : Lent v n best
 
 -- The plan X, which costs c and places k stops, was compared with the best so far, and the better of them is the best after.

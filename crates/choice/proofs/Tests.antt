@@ -12,7 +12,7 @@ use Rattle.model.specs.Plan.{Plan, placed, encode}
 use Rattle.model.specs.Cost.{cost}
 use Rattle.model.specs.Rebuild.{better}
 use Rattle.model.proofs.Order.{both}
-use Rattle.arrange.specs.Scores.{loses}
+use Rattle.choice.specs.Scores.{loses}
 
 -- ---- what a test showed
 

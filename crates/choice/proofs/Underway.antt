@@ -17,8 +17,8 @@ use Rattle.model.proofs.Counts.{Below}
 use Rattle.model.proofs.PlanForm.{decode-encode, lent-length, lent-encode}
 use Rattle.delivery.specs.Costs.{Costs}
 use Rattle.delivery.proofs.Laws.{cost-exact}
-use Rattle.arrange.specs.declared.Score.{Score}
-use Rattle.arrange.specs.Scores.{Considered, Kept, Walked}
+use Rattle.choice.specs.declared.Score.{Score}
+use Rattle.choice.specs.Scores.{Considered, Kept, Walked}
 
 module _ (t : List ℕ) (v n : ℕ) (p : Prices) where
   -- ---- one plan

@@ -1,10 +1,10 @@
--- `arrange::weigh` meets its contract.
+-- `choice::weigh` meets its contract.
 use mathlib.Core.Path.{refl, ap₂, _∙_}
 use lib.Ieee.{binary64, add}
 use Rattle.delivery.proofs.Laws.{sum-exact}
 use borrow.Author.Needs.{needs}
-use Rattle.arrange.proofs.weigh.Statement.{statement}
-use Rattle.arrange.proofs.weigh.Tie as tie
+use Rattle.choice.proofs.weigh.Statement.{statement}
+use Rattle.choice.proofs.weigh.Tie as tie
 
 close-requires : tie.Need-close-requires
 close-requires c κs = search needs

@@ -14,9 +14,9 @@ use Rattle.model.specs.Cost.{cost}
 use Rattle.model.specs.Rebuild.{better, choose}
 use Rattle.model.proofs.PlanForm.{decode-encode}
 use Rattle.whole.proofs.Laws.{amount-is}
-use Rattle.arrange.specs.declared.Score.{Score}
-use Rattle.arrange.specs.Scores.{loses, Considered}
-use Rattle.arrange.proofs.Tests.{loses-better, holds-better}
+use Rattle.choice.specs.declared.Score.{Score}
+use Rattle.choice.specs.Scores.{loses, Considered}
+use Rattle.choice.proofs.Tests.{loses-better, holds-better}
 
 module _ (v n : ℕ) (X : Plan) (c : Float) (k : ℕ) (best : List ℕ) (s : Score) where
   -- X loses, and the best stays
@@ -61,17 +61,17 @@ module _ (v n : ℕ) (X : Plan) (c : Float) (k : ℕ) (best : List ℕ) (s : Sco
       counted = counted;
     }
 
-    module _ (L : Lent v n best) (wide : length X ≡ v) (f g : Bool) (ef : f ≡ lost) (h : f ≡ false) (scratch : List ℕ) (es : scratch ≡ encode n X)
-        (eg : g ≡ (loses (amount (s .cost)) (s .placed) (amount c) k || lower scratch best)) where
+    module _ (L : Lent v n best) (wide : length X ≡ v) (g : Bool) (h : lost ≡ false) (other : List ℕ) (es : other ≡ encode n X)
+        (eg : g ≡ (loses (amount (s .cost)) (s .placed) (amount c) k || lower other best)) where
       found : (J : Job) → stopCount J ≡ n → cost J X ≤ exact → c ≡ whole (cost J X) → k ≡ placed X
           → cost J (decode v best) ≤ exact → s .cost ≡ whole (cost J (decode v best)) → s .placed ≡ placed (decode v best)
           → g ≡ better J X (decode v best)
       found J en x e ek b eb ep =
           eg ∙ ap (λ (l : List ℕ). loses (amount (s .cost)) (s .placed) (amount c) k || lower l best) es
           ∙ won-is J en x e ek b eb ep L
-          ∙ holds-better J X (decode v best) (sym (lost-is J en x e ek b eb ep) ∙ sym ef ∙ h)
+          ∙ holds-better J X (decode v best) (sym (lost-is J en x e ek b eb ep) ∙ h)
 
-      pub considered-won : g ≡ true → after ≡ scratch → r .cost ≡ c → r .placed ≡ k → Considered v n X c k best s after r
+      pub considered-won : g ≡ true → after ≡ other → r .cost ≡ c → r .placed ≡ k → Considered v n X c k best s after r
       considered-won eg′ ea ec ep = record {
         chosen = λ J en x e ek b eb eq. ap (decode v) (ea ∙ es) ∙ decode-encode n X v wide ∙ taken J en x e ek b eb eq
             (sym (found J en x e ek b eb eq) ∙ eg′);

@@ -1,8 +1,8 @@
--- `arrange::ahead` meets its contract.
-use Rattle.arrange.proofs.Tests.{or-first, or-second}
+-- `choice::ahead` meets its contract.
+use Rattle.choice.proofs.Tests.{or-first, or-second}
 use borrow.Author.Needs.{needs}
-use Rattle.arrange.proofs.ahead.Statement.{statement}
-use Rattle.arrange.proofs.ahead.Tie as tie
+use Rattle.choice.proofs.ahead.Statement.{statement}
+use Rattle.choice.proofs.ahead.Tie as tie
 
 behind-requires : tie.Need-behind-requires
 behind-requires c κs = search needs

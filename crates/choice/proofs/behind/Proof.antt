@@ -1,9 +1,9 @@
--- `arrange::behind` meets its contract.
+-- `choice::behind` meets its contract.
 use mathlib.Core.Path.{refl}
-use Rattle.arrange.proofs.Tests.{or-first, or-second, and-first, and-none}
+use Rattle.choice.proofs.Tests.{or-first, or-second, and-first, and-none}
 use borrow.Author.Needs.{needs}
-use Rattle.arrange.proofs.behind.Statement.{statement}
-use Rattle.arrange.proofs.behind.Tie as tie
+use Rattle.choice.proofs.behind.Statement.{statement}
+use Rattle.choice.proofs.behind.Tie as tie
 
 cheaper-requires : tie.Need-cheaper-requires
 cheaper-requires c κs = search needs

@@ -1,0 +1,4 @@
+pub mod Tests
+pub mod Considered
+pub mod Underway
+pub mod Meeting
