@@ -33,7 +33,7 @@ use Rattle.gaps.specs.Here.{Surveyed, Ground}
 use Rattle.gaps.proofs.Here.{plan-wide, plan-few, plan-lent, start-closable, here-start}
 use Rattle.choice.specs.declared.Score.{Score}
 use Rattle.choice.specs.Scores.{Kept, Walked}
-use Rattle.arrange.specs.Walks.{Walkable}
+use Rattle.last_stops.specs.Walks.{Walkable}
 use Rattle.arrange.specs.Arranged.{Arrangeable, Begun, Arranged}
 
 module _ (t : List ℕ) (v n : ℕ) (p : Prices) (xs regions : List ℕ) (A : Arrangeable t v n p xs regions) where

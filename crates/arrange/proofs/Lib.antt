@@ -1,5 +1,1 @@
-pub mod Alone
-pub mod Spreading
-pub mod Walking
-pub mod Last
 pub mod Arranging

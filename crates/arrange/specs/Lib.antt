@@ -1,3 +1,2 @@
 -- What the contracts of this crate cite beside the definitions of `model`.
-pub mod Walks
 pub mod Arranged

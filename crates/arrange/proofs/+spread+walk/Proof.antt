@@ -10,8 +10,8 @@ use lib.Seq.{length-take-le}
 use Rattle.model.specs.StopSet.{stopsOf}
 use Rattle.stop_set.proofs.Laws.{stops-none}
 use Rattle.gaps.proofs.Here.{here-closable}
-use Rattle.arrange.proofs.Spreading.{Spreading, spreading-start, spreading-end, turn-room, turn-fewer, turn-less, turn-call, turn-after}
-use Rattle.arrange.proofs.Walking.{Walking, walk-meetable, walking-start, walking-end, walking-openable, walking-call, walking-after}
+use Rattle.last_stops.proofs.Spreading.{Spreading, spreading-start, spreading-end, turn-room, turn-fewer, turn-less, turn-call, turn-after}
+use Rattle.last_stops.proofs.Walking.{Walking, walk-meetable, walking-start, walking-end, walking-openable, walking-call, walking-after}
 use borrow.Fn.Kinds.{In}
 use borrow.Fn.PlainCycle.{Measures, is, falls, and}
 use Rattle.arrange.proofs.spread.Reads as spread
@@ -20,7 +20,7 @@ use Rattle.arrange.proofs.+spread+walk.Lts-spread as spread-lts
 use Rattle.arrange.proofs.walk.Reads as walk
 use Rattle.arrange.proofs.walk.Kinds as walk-kinds
 use Rattle.arrange.proofs.+spread+walk.Lts-walk as walk-lts
-use Rattle.arrange.proofs.finish.Reads as finish-reads
+use Rattle.last_stops.proofs.walk_two.Reads as walk-two-reads
 use Rattle.choice.proofs.meet.Reads as meet-reads
 use Rattle.gaps.proofs.resume.Reads as resume-reads
 use Rattle.gaps.proofs.step.Reads as step-reads
@@ -50,7 +50,7 @@ walk-below t = and 6 walk-kinds.ps (falls 6 walk-kinds.ps _<_ μ-walk t) walk.Pr
 
 abbrev spread-calls : ℕ → spread-lts.Claims
 spread-calls t =
-    (size-reads.Asked, size-reads.Learnt, lowest-reads.Asked, lowest-reads.Learnt, without-reads.Asked, without-reads.Learnt, step-reads.Asked, step-reads.Learnt, finish-reads.Asked, finish-reads.Learnt, walk-below t, walk.Post)
+    (size-reads.Asked, size-reads.Learnt, lowest-reads.Asked, lowest-reads.Learnt, without-reads.Asked, without-reads.Learnt, step-reads.Asked, step-reads.Learnt, walk-two-reads.Asked, walk-two-reads.Learnt, walk-below t, walk.Post)
 
 abbrev walk-calls : ℕ → walk-lts.Claims
 walk-calls t =
@@ -111,8 +111,8 @@ spread-add-e t c =
     let l = c .before .before .before .before .before .loop .inv in
     omega (arith, turn-room g l (c .before .before .before .lowest .ensures), l .long, g .short)
 
-spread-finish-requires : (t : ℕ) → spread-lts.Need-finish-requires (spread-calls t) (spread-at t) spread.Post spread-Inv-loop spread-μ-loop
-spread-finish-requires t c κs =
+spread-walk-two-requires : (t : ℕ) → spread-lts.Need-walk-two-requires (spread-calls t) (spread-at t) spread.Post spread-Inv-loop spread-μ-loop
+spread-walk-two-requires t c κs =
     let g = c .before .before .before .before .before .before .before .before .before .before .before .before .before .before .before .before .pre .1 in
     let l = c .before .before .before .before .before .before .before .before .loop .inv in
     let f = c .before .before .before .before .before .before .lowest .ensures in
@@ -124,8 +124,8 @@ spread-loop-less t c = turn-less (c .before .before .before .before .before .bef
 
 spread-loop-again : (t : ℕ) → spread-lts.Need-loop-again (spread-calls t) (spread-at t) spread.Post spread-Inv-loop spread-μ-loop
 spread-loop-again t c =
-    let k = c .before .before .before .before .finish in
-    turn-after (c .before .before .before .before .before .before .before .before .before .before .before .before .before .before .before .before .before .before .before .before .before .pre .1) (c .before .before .before .before .before .before .before .before .before .before .before .before .before .loop .inv) (c .before .before .before .before .before .before .before .before .before .before .before .lowest .ensures) (c .before .before .before .before .before .before .before .before .without2 .ensures) _ (c .before .before .before .before .before .before .before .before .before .before .without .ensures) (k .ensures .0) (k .ensures .1)
+    let k = c .before .before .before .before .walk-two in
+    turn-after (c .before .before .before .before .before .before .before .before .before .before .before .before .before .before .before .before .before .before .before .before .before .pre .1) (c .before .before .before .before .before .before .before .before .before .before .before .before .before .loop .inv) (c .before .before .before .before .before .before .before .before .before .before .before .lowest .ensures) (c .before .before .before .before .before .before .before .before .without2 .ensures) (k .last .1 .1 .1 .1 .1 .1 .1 .1 .1 .1 .1 .0) {best′ = k .last .1 .1 .1 .1 .1 .1 .1 .1 .1 .1 .1 .1 .1 .0} (c .before .before .before .before .before .before .before .before .before .before .without .ensures) (k .ensures .0) (k .ensures .1)
     (k .kept .1 .1 .1 .1 .1 .1 .1 .1 .1 .1 .1 .0) (k .kept .1 .1 .1 .1 .1 .1 .1 .1 .1 .1 .1 .1 .1 .0)
 
 spread-walk-requires : (t : ℕ) → spread-lts.Need-walk-requires (spread-calls t) (spread-at t) spread.Post spread-Inv-loop spread-μ-loop
@@ -142,7 +142,7 @@ spread-loop-less-2 t c = turn-less (c .before .before .before .before .before .b
 spread-loop-again-2 : (t : ℕ) → spread-lts.Need-loop-again-2 (spread-calls t) (spread-at t) spread.Post spread-Inv-loop spread-μ-loop
 spread-loop-again-2 t c =
     let k = c .before .before .before .before .walk in
-    turn-after (c .before .before .before .before .before .before .before .before .before .before .before .before .before .before .before .before .before .before .before .before .before .pre .1) (c .before .before .before .before .before .before .before .before .before .before .before .before .before .loop .inv) (c .before .before .before .before .before .before .before .before .before .before .before .lowest .ensures) (c .before .before .before .before .before .before .before .before .without2 .ensures) _ (c .before .before .before .before .before .before .before .before .before .before .without .ensures) (k .ensures .0) (k .ensures .1)
+    turn-after (c .before .before .before .before .before .before .before .before .before .before .before .before .before .before .before .before .before .before .before .before .before .pre .1) (c .before .before .before .before .before .before .before .before .before .before .before .before .before .loop .inv) (c .before .before .before .before .before .before .before .before .before .before .before .lowest .ensures) (c .before .before .before .before .before .before .before .before .without2 .ensures) (k .last .1 .1 .1 .1 .1 .1 .1 .1 .1 .1 .1 .0) {best′ = k .last .1 .1 .1 .1 .1 .1 .1 .1 .1 .1 .1 .1 .1 .0} (c .before .before .before .before .before .before .before .before .before .before .without .ensures) (k .ensures .0) (k .ensures .1)
     (k .kept .1 .1 .1 .1 .1 .1 .1 .1 .1 .1 .1 .0) (k .kept .1 .1 .1 .1 .1 .1 .1 .1 .1 .1 .1 .1 .1 .0)
 
 spread-same-length : (t : ℕ) → spread-lts.Need-same-length (spread-calls t) (spread-at t) spread.Post spread-Inv-loop spread-μ-loop
@@ -178,19 +178,19 @@ walk-meet-requires : (t : ℕ) → walk-lts.Need-meet-requires (walk-calls t) (w
 walk-meet-requires t c κs = walk-meetable (c .before .before .before .before .before .before .before .before .before .pre .1) (c .before .before .size .ensures .stops)
 
 walk-loop-holds : (t : ℕ) → walk-lts.Need-loop-holds (walk-calls t) (walk-at t) walk.Post walk-Inv-loop walk-μ-loop
-walk-loop-holds t c = walking-start (c .before .before .before .before .before .before .before .before .before .before .before .before .before .pre .1) (c .before .before .before .meet .ensures .walked)
+walk-loop-holds t c = let k = c .before .before .before .meet in walking-start (c .before .before .before .before .before .before .before .before .before .before .before .before .before .pre .1) {best₀ = k .last .1 .1 .1 .1 .1 .1 .1 .1 .1 .1 .1 .1 .0} (k .ensures .walked)
 
 walk-mul-loop : (t : ℕ) → walk-lts.Need-mul-loop (walk-calls t) (walk-at t) walk.Post walk-Inv-loop walk-μ-loop
 walk-mul-loop t c = omega (arith, c .loop .inv .few, c .before .before .before .before .before .before .before .before .before .before .before .before .before .before .pre .1 .ground .gapped .few)
 
 walk-resume-requires : (t : ℕ) → walk-lts.Need-resume-requires (walk-calls t) (walk-at t) walk.Post walk-Inv-loop walk-μ-loop
-walk-resume-requires t c κs = walking-openable (c .before .before .before .before .before .before .before .before .before .before .before .before .before .before .before .pre .1) (c .before .before .before .before .before .meet .ensures .walked) (c .before .loop .inv) (c .loop-test .taken)
+walk-resume-requires t c κs = let k = c .before .before .before .before .before .meet in walking-openable (c .before .before .before .before .before .before .before .before .before .before .before .before .before .before .before .pre .1) {best₀ = k .last .1 .1 .1 .1 .1 .1 .1 .1 .1 .1 .1 .1 .0} (k .ensures .walked) (c .before .loop .inv) (c .loop-test .taken)
 
 walk-spread-requires : (t : ℕ) → walk-lts.Need-spread-requires (walk-calls t) (walk-at t) walk.Post walk-Inv-loop walk-μ-loop
 walk-spread-requires t c κs =
     let s = c .before .before .before .before .before .before .before .before .before .before .before .before .before .before .before .before .before .before in
-    let k = c .before .before .before .before .before .before .before .before .meet .ensures in
-    (omega (arith, s .pre .0), walking-call (s .pre .1) (k .walked) (c .before .before .before .before .loop .inv) (c .before .before .before .loop-test .taken) (k .driving) (c .before .before .resume .ensures))
+    let k = c .before .before .before .before .before .before .before .before .meet in
+    (omega (arith, s .pre .0), walking-call (s .pre .1) {best₀ = k .last .1 .1 .1 .1 .1 .1 .1 .1 .1 .1 .1 .1 .0} (k .ensures .walked) (c .before .before .before .before .loop .inv) (c .before .before .before .loop-test .taken) (k .ensures .driving) (c .before .before .resume .ensures))
 
 walk-add-r : (t : ℕ) → walk-lts.Need-add-r (walk-calls t) (walk-at t) walk.Post walk-Inv-loop walk-μ-loop
 walk-add-r t c = omega (arith, c .before .before .before .before .before .before .before .before .before .loop .inv .few, c .before .before .before .before .before .before .before .before .before .before .before .before .before .before .before .before .before .before .before .before .before .before .before .pre .1 .ground .gapped .few)
@@ -201,7 +201,8 @@ walk-loop-less t c = omega (arith, c .before .before .before .before .before .be
 walk-loop-again : (t : ℕ) → walk-lts.Need-loop-again (walk-calls t) (walk-at t) walk.Post walk-Inv-loop walk-μ-loop
 walk-loop-again t c =
     let k = c .before .before .before .before .spread in
-    walking-after (c .before .before .before .before .before .before .before .before .before .before .before .before .before .before .before .before .before .before .before .before .before .before .before .pre .1) (c .before .before .before .before .before .before .before .before .before .before .before .before .before .meet .ensures .walked) (c .before .before .before .before .before .before .before .before .before .loop .inv) (c .before .before .before .before .before .before .before .before .loop-test .taken) _ (k .ensures .0) (k .ensures .1)
+    let o = c .before .before .before .before .before .before .before .before .before .before .before .before .before .meet in
+    walking-after (c .before .before .before .before .before .before .before .before .before .before .before .before .before .before .before .before .before .before .before .before .before .before .before .pre .1) {best₀ = o .last .1 .1 .1 .1 .1 .1 .1 .1 .1 .1 .1 .1 .0} (o .ensures .walked) (c .before .before .before .before .before .before .before .before .before .loop .inv) (c .before .before .before .before .before .before .before .before .loop-test .taken) (k .last .1 .1 .1 .1 .1 .1 .1 .1 .1 .1 .1 .0) {best₂ = k .last .1 .1 .1 .1 .1 .1 .1 .1 .1 .1 .1 .1 .1 .0} (k .ensures .0) (k .ensures .1)
     (k .kept .1 .1 .1 .1 .1 .1 .1 .1 .1 .1 .1 .0) (k .kept .1 .1 .1 .1 .1 .1 .1 .1 .1 .1 .1 .1 .1 .0)
 
 walk-same-length : (t : ℕ) → walk-lts.Need-same-length (walk-calls t) (walk-at t) walk.Post walk-Inv-loop walk-μ-loop
@@ -213,12 +214,13 @@ walk-same-length-2 t c = c .before .loop .inv .bests ∙ c .before .before .befo
 walk-returns : (t : ℕ) → walk-lts.Need-returns (walk-calls t) (walk-at t) walk.Post walk-Inv-loop walk-μ-loop
 walk-returns t c =
     let l = c .before .loop .inv in
-    (walking-end (c .before .before .before .before .before .before .before .before .before .before .before .before .before .before .before .pre .1) (c .before .before .before .before .before .meet .ensures .walked) l (c .loop-test .left), l .same)
+    let o = c .before .before .before .before .before .meet in
+    (walking-end (c .before .before .before .before .before .before .before .before .before .before .before .before .before .before .before .pre .1) {best₀ = o .last .1 .1 .1 .1 .1 .1 .1 .1 .1 .1 .1 .1 .0} (o .ensures .walked) l (c .loop-test .left), l .same)
 
 pub +spread+walk-spec : {M : Type 1} → statement M
 +spread+walk-spec =
     close μ-spread μ-walk
     (λ t. spread-lts.spec (spread-calls t) (spread-at t) spread.Post spread-Inv-loop spread-μ-loop
-    (spread-size-requires t) (spread-loop-holds t) (spread-lowest-requires t) (spread-without-requires t) (spread-cast-codes t) (spread-mul-codes t) (spread-add-codes t) (spread-mul-codes-2 t) (spread-slice-write-codes t) (spread-step-requires t) (spread-without-requires-2 t) (spread-add-e t) (spread-finish-requires t) (spread-loop-less t) (spread-loop-again t) (spread-walk-requires t) (spread-loop-less-2 t) (spread-loop-again-2 t) (spread-same-length t) (spread-same-length-2 t) (spread-returns t))
+    (spread-size-requires t) (spread-loop-holds t) (spread-lowest-requires t) (spread-without-requires t) (spread-cast-codes t) (spread-mul-codes t) (spread-add-codes t) (spread-mul-codes-2 t) (spread-slice-write-codes t) (spread-step-requires t) (spread-without-requires-2 t) (spread-add-e t) (spread-walk-two-requires t) (spread-loop-less t) (spread-loop-again t) (spread-walk-requires t) (spread-loop-less-2 t) (spread-loop-again-2 t) (spread-same-length t) (spread-same-length-2 t) (spread-returns t))
     (λ t. walk-lts.spec (walk-calls t) (walk-at t) walk.Post walk-Inv-loop walk-μ-loop
     (walk-size-requires t) (walk-slice-reshare-prefix-meet t) (walk-slice-aggregate-meet t) (walk-meet-requires t) (walk-loop-holds t) (walk-mul-loop t) (walk-resume-requires t) (walk-spread-requires t) (walk-add-r t) (walk-loop-less t) (walk-loop-again t) (walk-same-length t) (walk-same-length-2 t) (walk-returns t))

@@ -1,12 +1,12 @@
--- `arrange::one_or_none` meets its contract.
+-- `last_stops::one_or_none` meets its contract.
 use mathlib.Core.Path.{ap, sym, _∙_}
 use native.Mathlib.Nat.{pos-of-ne-zero}
 use native.Mathlib.Omega.{arith}
 use lib.ListN.{length}
 use Rattle.model.specs.StopSet.{stopsOf}
 use Rattle.stop_set.proofs.Laws.{stops-none, stops-first}
-use Rattle.arrange.proofs.one_or_none.Statement.{statement}
-use Rattle.arrange.proofs.one_or_none.Tie as tie
+use Rattle.last_stops.proofs.one_or_none.Statement.{statement}
+use Rattle.last_stops.proofs.one_or_none.Tie as tie
 
 returns : tie.Need-returns
 returns c = sym (ap (λ s. length (stopsOf s)) (c .if1 .taken) ∙ ap length stops-none)

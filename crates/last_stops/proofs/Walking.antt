@@ -22,8 +22,8 @@ use Rattle.gaps.proofs.Here.{start-closable, here-start}
 use Rattle.choice.specs.declared.Score.{Score}
 use Rattle.choice.specs.Scores.{Walked}
 use Rattle.choice.specs.Meeting.{Meetable}
-use Rattle.arrange.specs.Walks.{Walkable}
-use Rattle.arrange.proofs.Alone.{plans-alone}
+use Rattle.last_stops.specs.Walks.{Walkable}
+use Rattle.last_stops.proofs.Alone.{plans-alone}
 use Rattle.choice.proofs.Underway.{walked-append, Underway, underway-start, underway-more, underway-count, underway-end}
 
 -- the gaps from r on are still to be tried, of those from q on

@@ -20,10 +20,10 @@ use Rattle.gaps.specs.Here.{planAt}
 use Rattle.choice.specs.declared.Score.{Score}
 use Rattle.choice.specs.Scores.{Walked}
 use Rattle.choice.specs.Meeting.{Meetable}
-use Rattle.arrange.specs.Walks.{Walkable}
-use Rattle.arrange.proofs.Alone.{none-left}
-use Rattle.arrange.proofs.Spreading.{spreading-start, spreading-end, turn-room, turn-fewer, turn-call, turn-after}
-use Rattle.arrange.proofs.Walking.{walk-meetable, walk-alone}
+use Rattle.last_stops.specs.Walks.{Walkable}
+use Rattle.last_stops.proofs.Alone.{none-left}
+use Rattle.last_stops.proofs.Spreading.{spreading-start, spreading-end, turn-room, turn-fewer, turn-call, turn-after}
+use Rattle.last_stops.proofs.Walking.{walk-meetable, walk-alone}
 
 module _ {t : List ℕ} {v n : ℕ} {p : Prices} {xs regions gaps : List ℕ} {all left q : ℕ} {st : Stand} {codes : List ℕ} {m : ℕ} {best : List ℕ} {f : Score}
     (W : Walkable t v n p xs regions gaps all left q st codes m best f

@@ -1,13 +1,13 @@
--- `arrange::finish` meets its contract. It is `walk` with `place_last` in the place of `spread`, and has the same invariant.
+-- `last_stops::finish` meets its contract. It is `walk` with `place_last` in the place of `spread`, and has the same invariant.
 use mathlib.Core.Path.{sym, _∙_}
 use Prim.Native.Nat.{_-_}
 use native.Mathlib.Omega.{arith}
 use lib.ListN.{length}
 use lib.Seq.{length-take-le}
-use Rattle.arrange.proofs.Walking.{Walking, walk-meetable, walk-alone, walking-start, walking-end, walking-openable, walking-call, walking-after}
+use Rattle.last_stops.proofs.Walking.{Walking, walk-meetable, walk-alone, walking-start, walking-end, walking-openable, walking-call, walking-after}
 use borrow.Author.Needs.{needs}
-use Rattle.arrange.proofs.finish.Statement.{statement}
-use Rattle.arrange.proofs.finish.Tie as tie
+use Rattle.last_stops.proofs.finish.Statement.{statement}
+use Rattle.last_stops.proofs.finish.Tie as tie
 
 abbrev Inv-loop : tie.InvT-loop
 Inv-loop legs v n prices plan regions gaps all left q stand codes₀ m best₀ unplaced found₀ driving gap₀ codes best found gap =
@@ -37,22 +37,22 @@ same-length-2 c = search needs
 returns : tie.Need-returns Inv-loop μ-loop
 returns c =
     let e = c .before .before .before .before .before .before .before .one-or-none .ensures in
-    (walk-alone (c .before .before .before .before .before .before .before .before .before .before .before .before .before .before .pre .0) (sym e ∙ c .if1 .taken) (c .before .before .before .before .meet .ensures .walked), search needs)
+    (walk-alone (c .before .before .before .before .before .before .before .before .before .before .before .before .before .before .pre .0) (sym e ∙ c .if1 .taken) {after = c .before .before .before .before .meet .last .1 .1 .1 .1 .1 .1 .1 .1 .1 .1 .1 .1 .0} (c .before .before .before .before .meet .ensures .walked), search needs)
 
 loop-holds : tie.Need-loop-holds Inv-loop μ-loop
-loop-holds c = walking-start (c .before .before .before .before .before .before .before .before .before .before .before .before .before .before .pre .0) (c .before .before .before .before .meet .ensures .walked)
+loop-holds c = let k = c .before .before .before .before .meet in walking-start (c .before .before .before .before .before .before .before .before .before .before .before .before .before .before .pre .0) {best₀ = k .last .1 .1 .1 .1 .1 .1 .1 .1 .1 .1 .1 .1 .0} (k .ensures .walked)
 
 mul-loop : tie.Need-mul-loop Inv-loop μ-loop
 mul-loop c = omega (arith, c .loop .inv .few, c .before .before .before .before .before .before .before .before .before .before .before .before .before .before .before .pre .0 .ground .gapped .few)
 
 resume-requires : tie.Need-resume-requires Inv-loop μ-loop
-resume-requires c κs = walking-openable (c .before .before .before .before .before .before .before .before .before .before .before .before .before .before .before .before .pre .0) (c .before .before .before .before .before .before .meet .ensures .walked) (c .before .loop .inv) (c .loop-test .taken)
+resume-requires c κs = let k = c .before .before .before .before .before .before .meet in walking-openable (c .before .before .before .before .before .before .before .before .before .before .before .before .before .before .before .before .pre .0) {best₀ = k .last .1 .1 .1 .1 .1 .1 .1 .1 .1 .1 .1 .1 .0} (k .ensures .walked) (c .before .loop .inv) (c .loop-test .taken)
 
 place-last-requires : tie.Need-place-last-requires Inv-loop μ-loop
 place-last-requires c κs =
     let s = c .before .before .before .before .before .before .before .before .before .before .before .before .before .before .before .before .before .before .before in
-    let k = c .before .before .before .before .before .before .before .before .before .meet .ensures in
-    (walking-call (s .pre .0) (k .walked) (c .before .before .before .before .loop .inv) (c .before .before .before .loop-test .taken) (k .driving) (c .before .before .resume .ensures), omega (arith, s .pre .1, c .before .before .before .before .before .before .before .before .before .before .before .before .one-or-none .ensures, c .before .before .before .before .before .if1 .left))
+    let k = c .before .before .before .before .before .before .before .before .before .meet in
+    (walking-call (s .pre .0) {best₀ = k .last .1 .1 .1 .1 .1 .1 .1 .1 .1 .1 .1 .1 .0} (k .ensures .walked) (c .before .before .before .before .loop .inv) (c .before .before .before .loop-test .taken) (k .ensures .driving) (c .before .before .resume .ensures), omega (arith, s .pre .1, c .before .before .before .before .before .before .before .before .before .before .before .before .one-or-none .ensures, c .before .before .before .before .before .if1 .left))
 
 add-gap : tie.Need-add-gap Inv-loop μ-loop
 add-gap c = omega (arith, c .before .before .before .before .before .before .before .before .before .loop .inv .few, c .before .before .before .before .before .before .before .before .before .before .before .before .before .before .before .before .before .before .before .before .before .before .before .before .pre .0 .ground .gapped .few)
@@ -63,7 +63,8 @@ loop-less c = omega (arith, c .before .before .before .before .before .before .b
 loop-again : tie.Need-loop-again Inv-loop μ-loop
 loop-again c =
     let k = c .before .before .before .before .place-last in
-    walking-after (c .before .before .before .before .before .before .before .before .before .before .before .before .before .before .before .before .before .before .before .before .before .before .before .before .pre .0) (c .before .before .before .before .before .before .before .before .before .before .before .before .before .before .meet .ensures .walked) (c .before .before .before .before .before .before .before .before .before .loop .inv) (c .before .before .before .before .before .before .before .before .loop-test .taken) _ (k .ensures .0) (k .ensures .1)
+    let o = c .before .before .before .before .before .before .before .before .before .before .before .before .before .before .meet in
+    walking-after (c .before .before .before .before .before .before .before .before .before .before .before .before .before .before .before .before .before .before .before .before .before .before .before .before .pre .0) {best₀ = o .last .1 .1 .1 .1 .1 .1 .1 .1 .1 .1 .1 .1 .0} (o .ensures .walked) (c .before .before .before .before .before .before .before .before .before .loop .inv) (c .before .before .before .before .before .before .before .before .loop-test .taken) (k .last .1 .1 .1 .1 .1 .1 .1 .1 .1 .1 .1 .0) {best₂ = k .last .1 .1 .1 .1 .1 .1 .1 .1 .1 .1 .1 .1 .1 .0} (k .ensures .0) (k .ensures .1)
     (k .kept .1 .1 .1 .1 .1 .1 .1 .1 .1 .1 .1 .0) (k .kept .1 .1 .1 .1 .1 .1 .1 .1 .1 .1 .1 .1 .1 .0)
 
 same-length-3 : tie.Need-same-length-3 Inv-loop μ-loop
@@ -75,7 +76,8 @@ same-length-4 c = c .before .loop .inv .bests ∙ c .before .before .before .bef
 returns-2 : tie.Need-returns-2 Inv-loop μ-loop
 returns-2 c =
     let l = c .before .loop in
-    (walking-end (c .before .before .before .before .before .before .before .before .before .before .before .before .before .before .before .before .pre .0) (c .before .before .before .before .before .before .meet .ensures .walked) (l .inv) (c .loop-test .left), l .inv .same)
+    let o = c .before .before .before .before .before .before .meet in
+    (walking-end (c .before .before .before .before .before .before .before .before .before .before .before .before .before .before .before .before .pre .0) {best₀ = o .last .1 .1 .1 .1 .1 .1 .1 .1 .1 .1 .1 .1 .0} (o .ensures .walked) (l .inv) (c .loop-test .left), l .inv .same)
 
 pub finish-spec : {M : Type 1} → statement M
 finish-spec =

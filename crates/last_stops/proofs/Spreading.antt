@@ -24,7 +24,7 @@ use Rattle.gaps.specs.Here.{Here}
 use Rattle.gaps.proofs.Here.{here-further}
 use Rattle.choice.specs.declared.Score.{Score}
 use Rattle.choice.specs.Scores.{Walked}
-use Rattle.arrange.specs.Walks.{Walkable}
+use Rattle.last_stops.specs.Walks.{Walkable}
 use Rattle.choice.proofs.Underway.{Underway, underway-start, underway-more, underway-count, underway-end}
 
 -- the stops of `rest` are still to be placed

@@ -1,13 +1,13 @@
--- `arrange::place_last` meets its contract.
+-- `last_stops::place_last` meets its contract.
 use mathlib.Core.Path.{sym}
 use native.Mathlib.Omega.{arith}
 use lib.ListN.{length-set}
 use lib.Seq.{length-take-le}
 use Rattle.gaps.proofs.Here.{here-closable}
-use Rattle.arrange.proofs.Last.{last-some, last-room, last-same, last-meetable, last-walked}
+use Rattle.last_stops.proofs.Last.{last-some, last-room, last-same, last-meetable, last-walked}
 use borrow.Author.Needs.{needs}
-use Rattle.arrange.proofs.place_last.Statement.{statement}
-use Rattle.arrange.proofs.place_last.Tie as tie
+use Rattle.last_stops.proofs.place_last.Statement.{statement}
+use Rattle.last_stops.proofs.place_last.Tie as tie
 
 lowest-requires : tie.Need-lowest-requires
 lowest-requires c κs = let s = c .before .before .before .before .before .before in last-some (s .pre .0) (s .pre .1)
@@ -63,7 +63,7 @@ returns c =
     let s = c .before .before .before .before .before .before .before .before .before .before .before .before .before .before in
     let l = c .before .before .before .before .before .before .before .lowest .ensures in
     let k = c .before .before .before .meet in
-    (last-walked (s .pre .0) (s .pre .1) l (c .before .before .before .before .before .before .step .ensures) (k .kept .1 .1 .1 .1 .1 .1 .1 .1 .1 .1 .1 .1 .0) (k .ensures .walked), last-same (s .pre .0) (s .pre .1) l)
+    (last-walked (s .pre .0) (s .pre .1) l (c .before .before .before .before .before .before .step .ensures) {after = k .last .1 .1 .1 .1 .1 .1 .1 .1 .1 .1 .1 .1 .0} (k .kept .1 .1 .1 .1 .1 .1 .1 .1 .1 .1 .1 .1 .0) (k .ensures .walked), last-same (s .pre .0) (s .pre .1) l)
 
 pub place-last-spec : {M : Type 1} → statement M
 place-last-spec =

@@ -1,0 +1,4 @@
+pub mod Alone
+pub mod Spreading
+pub mod Walking
+pub mod Last
