@@ -1,2 +1,6 @@
 pub mod Lists
 pub mod Heads
+pub mod Lines
+pub mod Ran
+pub mod Held
+pub mod Found

@@ -56,6 +56,11 @@ pub record HeadOf (bytes : List ℕ) (at call : ℕ) (given plan known : List �
   pub numbers : ListFor (hasPlan call) 0 longestPlan known plan
   pub stand : Stands bytes at (headOf call given plan)
 
+-- lists that are lent for them
+pub record Lent (given plan : List ℕ) : Type 0 where
+  pub stops : 8 ≤ length given
+  pub numbers : longestPlan ≤ length plan
+
 -- they are read: the lists are laid over the front of those that are lent
 pub record HeadHolds (bytes : List ℕ) (at : ℕ) (k : Head) (given plan given' plan' : List ℕ) : Type 0 where
   pub stops : List ℕ

@@ -4,6 +4,8 @@ use Prim.Native.Nat.{ℕ, _+_, _≤_}
 use mathlib.Core.Bool.{cond}
 use mathlib.Core.List.{List}
 use lib.ListN.{length, take}
+use Rattle.model.specs.Job.{Job}
+use Rattle.model.specs.Run.{Task}
 use Rattle.job_file.specs.declared.Header.{Header}
 use Rattle.job_file.specs.Reading.{Buffers}
 use Rattle.answers.specs.Answers.{Holds, Bounds}
@@ -12,7 +14,7 @@ use Rattle.sheet.specs.Printed.{Printable, longestPlan, mostPrinted}
 use Rattle.call_sheet.specs.declared.Head.{Head}
 use Rattle.call_sheet.specs.declared.SheetRead.{SheetRead}
 use Rattle.call_sheet.specs.declared.SheetRead.the-variants as R
-use Rattle.call_sheet.specs.Sheets.{Sheet, ReadableSheet, SheetAt, hasPlan, printedSheet}
+use Rattle.call_sheet.specs.Sheets.{Sheet, ReadableSheet, SheetAt, callOf, hasPlan, printedCall, printedSheet}
 
 -- a call's number, the stops and the plan that it is lent, and room to print into
 pub record Runs (call : ℕ) (given plan out : List ℕ) : Type 0 where
@@ -20,6 +22,11 @@ pub record Runs (call : ℕ) (given plan out : List ℕ) : Type 0 where
   pub last : call ≤ 7
   pub pair : call ≡ 3 → length given ≡ 2
   pub printable : Printable plan out
+
+-- so many bytes are printed for a call, whatever else the task of this job is
+abbrev pub JobPrints : ℕ → Job → List ℕ → List ℕ → List ℕ → List ℕ → ℕ → Type 0
+JobPrints call J given plan old new r =
+    (T : Task) → T .job ≡ J → Prints old new r (printedCall (callOf call) given plan T)
 
 -- how long the plan of a call is: as its line, or v + n
 abbrev pub planLength : ℕ → ℕ → ℕ → ℕ
