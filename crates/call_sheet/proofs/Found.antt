@@ -8,7 +8,7 @@ use lib.Dec.{eqb}
 use lib.ListN.{length, take, drop, replicate, length-append, length-replicate}
 use Rattle.model.specs.Job.{vehicleCount, stopCount}
 use Rattle.model.specs.Run.{Task}
-use Rattle.model.specs.File.{fileOf, Readable, Stands, AcceptedAt}
+use Rattle.model.specs.File.{fileOf, printedRefusal, Stands, AcceptedAt}
 use Rattle.model.proofs.Pieces.{stands-within, part, join}
 use Rattle.model.proofs.Tasks as tasks
 use Rattle.job_file.specs.declared.Header.{Header}
@@ -55,10 +55,17 @@ module _ (bytes : List ℕ) (at : ℕ) where
     s .readable .task,
   )
 
-  pub no-head : (a : HeadRead) (given plan given' plan' out : List ℕ) → HeadAt bytes at given plan given' plan' a → a ≡ H.Bad → AnswersSheet bytes at out out R.Bad
-  no-head a given plan given' plan' out h e =
+  -- no sheet stands there, and so refusal 14 is printed
+  refused : (out printed : List ℕ) (r : ℕ) → length printed ≡ length out → Prints out printed r (printedRefusal 14)
+      → ((to : ℕ) (S : Sheet) → SheetAt bytes at to S → ⊥) → AnswersSheet bytes at out printed (R.Bad r)
+  refused out printed r l p none = record { none = none; prints = p; fits = prints-within out printed r (printedRefusal 14) p l }
+
+  pub no-head : (a : HeadRead) (given plan given' plan' : List ℕ) → HeadAt bytes at given plan given' plan' a → a ≡ H.Bad
+      → (out printed : List ℕ) (r : ℕ) → length printed ≡ length out → Prints out printed r (printedRefusal 14)
+      → AnswersSheet bytes at out printed (R.Bad r)
+  no-head a given plan given' plan' h e out printed r l p =
       let none : HeadAt bytes at given plan given' plan' H.Bad = rw e at h in
-      (refl, λ to S s. none (S .call) (S .given) (S .plan) (blank (S .task .job)) (sheet-head to S s))
+      refused out printed r l p λ to S s. none (S .call) (S .given) (S .plan) (blank (S .task .job)) (sheet-head to S s)
 
 -- ---- the lists that a call is lent
 
@@ -94,10 +101,11 @@ module _ (bytes : List ℕ) (at : ℕ) (a : HeadRead) (given given' plan' : List
       (sheet-file bytes at to S s)
 
   module _ (b : TaskRead) (old new : Buffers) (read : ReadAt bytes (k .end) old new b) where
-    pub no-file : (number : ℕ) → b ≡ T.Refused number → (out : List ℕ) → AnswersSheet bytes at out out R.Bad
-    no-file number f out =
+    pub no-file : (number : ℕ) → b ≡ T.Refused number → (out printed : List ℕ) (r : ℕ) → length printed ≡ length out
+        → Prints out printed r (printedRefusal 14) → AnswersSheet bytes at out printed (R.Bad r)
+    no-file number f out printed r l p =
         let none : ReadAt bytes (k .end) old new (T.Refused number) = rw f at read in
-        (refl, λ to S s. none .2 to (S .task) (same-file to S s))
+        refused bytes at out printed r l p λ to S s. none .2 to (S .task) (same-file to S s)
 
     module _ (h : Header) (f : b ≡ T.Read h) where
       found : ReadAt bytes (k .end) old new (T.Read h)

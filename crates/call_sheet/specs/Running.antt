@@ -6,6 +6,7 @@ use mathlib.Core.List.{List}
 use lib.ListN.{length, take}
 use Rattle.model.specs.Job.{Job}
 use Rattle.model.specs.Run.{Task}
+use Rattle.model.specs.File.{printedRefusal}
 use Rattle.job_file.specs.declared.Header.{Header}
 use Rattle.job_file.specs.Reading.{Buffers}
 use Rattle.answers.specs.Answers.{Holds, Bounds}
@@ -64,7 +65,13 @@ pub record Answered (bytes : List ℕ) (at end : ℕ) (old new : List ℕ) (r : 
   pub within : end ≤ length bytes
   pub fits : r ≤ length old
 
--- the one sheet that stands there is answered, or none does and nothing is printed
+-- no sheet stands there, and refusal 14 is printed
+pub record NoSheet (bytes : List ℕ) (at : ℕ) (old new : List ℕ) (r : ℕ) : Type 0 where
+  pub none : (to : ℕ) (S : Sheet) → SheetAt bytes at to S → ⊥
+  pub prints : Prints old new r (printedRefusal 14)
+  pub fits : r ≤ length old
+
+-- the one sheet that stands there is answered, or none does
 abbrev pub AnswersSheet : List ℕ → ℕ → List ℕ → List ℕ → SheetRead → Type 0
 AnswersSheet bytes at old new (R.Answered end r) = Answered bytes at end old new r
-AnswersSheet bytes at old new R.Bad = (new ≡ old) × ((to : ℕ) (S : Sheet) → SheetAt bytes at to S → ⊥)
+AnswersSheet bytes at old new (R.Bad r) = NoSheet bytes at old new r

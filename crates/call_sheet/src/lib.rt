@@ -40,10 +40,10 @@ pub enum HeadRead {
     Bad,
 }
 
-// The position after a sheet that was answered, and how many bytes are printed for it.
+// The position after a sheet that was answered, and how many bytes are printed for it; or how many are where no sheet stands.
 pub enum SheetRead {
     Answered(usize, usize),
-    Bad,
+    Bad(usize),
 }
 
 // How many numbers stand in the line at a position, if one of at most so many stands there.
@@ -309,7 +309,7 @@ fn run_sheet(
     )
 }
 
-// Answers the sheet that stands at a position, where others may follow it.
+// Answers the sheet that stands at a position, where others may follow it; refusal 14 is printed where none does.
 pub fn answer_sheet(bytes: &[u8], at: usize, out: &mut [u8]) -> SheetRead
     requires { ⌜ mostPrinted ≤ length (now out) ⌝ }
     ensures { λ r. ⌜ AnswersSheet (now (bytes .entry)) at (now (out .entry)) (now (out .exit)) r ⌝ }
@@ -317,7 +317,7 @@ pub fn answer_sheet(bytes: &[u8], at: usize, out: &mut [u8]) -> SheetRead
     let mut given = [0u32; 8];
     let mut plan = [0u32; 96];
     let HeadRead::Read(head) = read_head(bytes, at, &mut given, &mut plan) else {
-        return SheetRead::Bad;
+        return SheetRead::Bad(printing::print_refusal(14, out));
     };
     let file = head.end;
     let mut vehicles = [0u32; 32];
@@ -332,7 +332,7 @@ pub fn answer_sheet(bytes: &[u8], at: usize, out: &mut [u8]) -> SheetRead
         &mut distances,
         &mut draws,
     ) else {
-        return SheetRead::Bad;
+        return SheetRead::Bad(printing::print_refusal(14, out));
     };
     let printed = run_sheet(
         head,

@@ -19,9 +19,15 @@ enum-known-head c = search needs
 enum-told : tie.Need-enum-told
 enum-told c = search needs
 
+print-refusal-requires : tie.Need-print-refusal-requires
+print-refusal-requires c κs = search needs
+
+same-length : tie.Need-same-length
+same-length c = search needs
+
 returns : tie.Need-returns
 returns c =
-    no-head _ _ _ _ _ _ _ _ (c .before .before .before .before .read-head .ensures) (c .enum-told .given .1)
+    no-head _ _ _ _ _ _ _ (c .before .before .before .before .before .before .before .before .read-head .ensures) (c .before .before .before .before .enum-told .given .1) _ _ _ (search needs) (c .before .before .print-refusal .ensures)
 
 slice-aggregate-read-at : tie.Need-slice-aggregate-read-at
 slice-aggregate-read-at c = search needs
@@ -44,9 +50,16 @@ enum-known-h c = search needs
 enum-told-2 : tie.Need-enum-told-2
 enum-told-2 c = search needs
 
+print-refusal-requires-2 : tie.Need-print-refusal-requires-2
+print-refusal-requires-2 c κs = search needs
+
+same-length-2 : tie.Need-same-length-2
+same-length-2 c = search needs
+
 returns-2 : tie.Need-returns-2
 returns-2 c =
-    no-file _ _ _ _ _ _ (c .before .before .before .before .before .before .before .before .before .before .before .before .before .before .before .before .read-head .ensures) _ (c .before .before .before .before .before .before .before .before .before .before .before .before .head .given .1) _ _ _ (c .before .before .before .before .before .before .read-at .ensures) _ (c .enum-told2 .given .1) _
+    no-file _ _ _ _ _ _ (c .before .before .before .before .before .before .before .before .before .before .before .before .before .before .before .before .before .before .before .before .read-head .ensures) _ (c .before .before .before .before .before .before .before .before .before .before .before .before .before .before .before .before .head .given .1) _ _ _ (c .before .before .before .before .before .before .before .before .before .before .read-at .ensures) _ (c .before .before .before .before .enum-told2 .given .1) _ _ _
+    (search needs) (c .before .before .print-refusal2 .ensures)
 
 slice-aggregate-run-sheet : tie.Need-slice-aggregate-run-sheet
 slice-aggregate-run-sheet c = search needs
@@ -71,8 +84,8 @@ run-sheet-requires c κs =
     sheet-ready _ _ _ _ _ _ (c .before .before .before .before .before .before .before .before .before .before .before .before .before .before .before .before .before .before .before .before .before .before .before .before .read-head .ensures) _ (c .before .before .before .before .before .before .before .before .before .before .before .before .before .before .before .before .before .before .before .before .head .given .1) _ _ _ (c .before .before .before .before .before .before .before .before .before .before .before .before .before .before .read-at .ensures) _ (c .before .before .before .before .before .before .before .before .h .given .1) _
     (search needs) (search needs) (search needs) (c .before .before .before .before .before .before .before .before .before .before .before .before .before .before .before .before .before .before .before .before .before .before .before .before .before .before .before .before .before .pre)
 
-same-length : tie.Need-same-length
-same-length c = search needs
+same-length-3 : tie.Need-same-length-3
+same-length-3 c = search needs
 
 returns-3 : tie.Need-returns-3
 returns-3 c =
@@ -88,6 +101,8 @@ answer-sheet-spec =
     read-head-requires
     enum-known-head
     enum-told
+    print-refusal-requires
+    same-length
     returns
     slice-aggregate-read-at
     slice-aggregate-read-at-2
@@ -96,6 +111,8 @@ answer-sheet-spec =
     read-at-requires
     enum-known-h
     enum-told-2
+    print-refusal-requires-2
+    same-length-2
     returns-2
     slice-aggregate-run-sheet
     slice-aggregate-run-sheet-2
@@ -104,5 +121,5 @@ answer-sheet-spec =
     slice-aggregate-run-sheet-5
     slice-aggregate-run-sheet-6
     run-sheet-requires
-    same-length
+    same-length-3
     returns-3)
