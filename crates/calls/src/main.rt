@@ -3,6 +3,9 @@ use call_sheet::SheetRead;
 use input::Filled;
 use libc::STDIN_FILENO;
 use libc::STDOUT_FILENO;
+ghost use Prim.Native.Nat.{_≤_};
+ghost use lib.ListN.{length};
+ghost use Rattle.calls.specs.Rest.{Within, Keeps};
 
 // More than any sheet has: 15 bytes, 113, 1,345, and 106,592 of its job file.
 const LONGEST: usize = 131072;
@@ -14,7 +17,10 @@ enum Left {
 }
 
 // Reads on where fewer bytes are left than a sheet may have. A buffer that is not full holds the end of the input.
-fn more(bytes: &mut [u8; 262144], at: usize, end: usize) -> Left {
+fn more(bytes: &mut [u8; 262144], at: usize, end: usize) -> Left
+    requires { ⌜ (at ≤ end) × (end ≤ 262144) ⌝ }
+    ensures { λ r. ⌜ Keeps at end (now (bytes .entry)) (now (bytes .exit)) r ⌝ }
+{
     if end < 262144 {
         return Left::Bytes(at, end);
     }
@@ -29,7 +35,9 @@ fn more(bytes: &mut [u8; 262144], at: usize, end: usize) -> Left {
 }
 
 // Answers the sheet at a position: where the next one begins.
-fn answer(bytes: &[u8], at: usize) -> Left {
+fn answer(bytes: &[u8], at: usize) -> Left
+    ensures { λ r. ⌜ Within (length (now (bytes .entry))) r ⌝ }
+{
     let mut out = [0u8; 1446];
     match call_sheet::answer_sheet(bytes, at, &mut out) {
         SheetRead::Answered(end, printed) => {
@@ -48,7 +56,10 @@ fn answer(bytes: &[u8], at: usize) -> Left {
 }
 
 // One sheet, with what is read for it.
-fn turn(bytes: &mut [u8; 262144], at: usize, end: usize) -> Left {
+fn turn(bytes: &mut [u8; 262144], at: usize, end: usize) -> Left
+    requires { ⌜ (at ≤ end) × (end ≤ 262144) ⌝ }
+    ensures { λ r. ⌜ Within 262144 r ⌝ }
+{
     let Left::Bytes(from, to) = more(bytes, at, end) else {
         return Left::Nothing;
     };

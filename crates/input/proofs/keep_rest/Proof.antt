@@ -1,53 +1,53 @@
+-- `input::keep_rest` meets its contract: i bytes are moved.
+use mathlib.Core.Path.{_≡_, refl}
+use Prim.Native.Nat.{_-_, _≤_}
+use native.Mathlib.Omega.{arith}
+use lib.ListN.{length, length-set}
+use Rattle.input.proofs.Rests.{Moved, moved-more, all-moved}
 use Rattle.input.proofs.keep_rest.Statement.{statement}
 use Rattle.input.proofs.keep_rest.Tie as tie
-use Rattle.input.proofs.keep_rest.Reads as reads
-use Rattle.input.proofs.keep_rest.Lts as lts
 
 abbrev Inv-loop : tie.InvT-loop
-Inv-loop buf₀ from n i₀ buf i = ?
+Inv-loop buf₀ from n i₀ buf i = (i ≤ n) × (length buf ≡ length buf₀) × Moved from buf₀ buf i
 
 abbrev μ-loop : tie.MeasureT-loop
-μ-loop buf₀ from n i₀ buf i = ?
+μ-loop buf₀ from n i₀ buf i = n - i
 
--- src/lib.rt:48:13
 sub-n : tie.Need-sub-n Inv-loop μ-loop
-sub-n c = ?
+sub-n c = omega arith
 
--- src/lib.rt:50:5
 loop-holds : tie.Need-loop-holds Inv-loop μ-loop
-loop-holds c = ?
+loop-holds c = (omega arith, refl, refl)
 
--- src/lib.rt:51:22
 add-buf : tie.Need-add-buf Inv-loop μ-loop
-add-buf c = ?
+add-buf c = omega arith
 
--- src/lib.rt:51:18
 slice-read-buf : tie.Need-slice-read-buf Inv-loop μ-loop
-slice-read-buf c = ?
+slice-read-buf c = omega arith
 
--- src/lib.rt:51:9
 slice-write-buf : tie.Need-slice-write-buf Inv-loop μ-loop
-slice-write-buf c = ?
+slice-write-buf c = omega arith
 
--- src/lib.rt:52:9
 add-i : tie.Need-add-i Inv-loop μ-loop
-add-i c = ?
+add-i c = omega arith
 
--- src/lib.rt:50:5
 loop-less : tie.Need-loop-less Inv-loop μ-loop
-loop-less c = ?
+loop-less c = omega arith
 
--- src/lib.rt:50:5
 loop-again : tie.Need-loop-again Inv-loop μ-loop
-loop-again c = ?
+loop-again c =
+    let s = c .before .before .before in
+    let inv = c .before .before .loop .inv in
+    (omega arith, simp length-set (inv .1), moved-more (s .args .from) (s .args .buf .now) _ (s .pre) _ (inv .2) (c .before .loop-test .taken))
 
--- src/lib.rt:44:1
 same-length : tie.Need-same-length Inv-loop μ-loop
-same-length c = ?
+same-length c = omega arith
 
--- src/lib.rt:44:1
 returns : tie.Need-returns Inv-loop μ-loop
-returns c = ?
+returns c =
+    let s = c .before .before in
+    let inv = c .before .loop .inv in
+    all-moved (s .args .from) (s .args .buf .now) _ (s .pre) (c .before .loop .i) (inv .2) _ refl (omega arith) (inv .1)
 
 pub keep-rest-spec : {M : Type 1} → statement M
 keep-rest-spec =

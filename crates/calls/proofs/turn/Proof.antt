@@ -1,0 +1,4 @@
+use Rattle.calls.proofs.turn.Statement.{statement}
+
+pub turn-spec : {M : Type 1} → statement M
+turn-spec 𝓤 H 𝓜 𝓖 𝓡 = ?
