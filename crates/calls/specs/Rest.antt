@@ -7,9 +7,8 @@ use Rattle.calls.specs.declared.Left.{Left}
 use Rattle.calls.specs.declared.Left.the-variants.{Bytes, Nothing}
 
 -- it lies within so many bytes
-abbrev pub Within : ℕ → Left → Type 0
-Within n (Bytes at end) = (at ≤ end) × (end ≤ n)
-Within n Nothing = Unit {0}
+pub record Within (n : ℕ) (a : Left) : Type 0 where
+  pub bounds : (at end : ℕ) → a ≡ Bytes at end → (at ≤ end) × (end ≤ n)
 
 -- the bytes that were left are still there, and others may stand after them
 pub record Still (at end : ℕ) (old new : List ℕ) (from to : ℕ) : Type 0 where

@@ -17,11 +17,11 @@ enum Left {
 }
 
 // Reads on where fewer bytes are left than a sheet may have. A buffer that is not full holds the end of the input.
-fn more(bytes: &mut [u8; 262144], at: usize, end: usize) -> Left
-    requires { ⌜ (at ≤ end) × (end ≤ 262144) ⌝ }
+fn more(bytes: &mut [u8], at: usize, end: usize) -> Left
+    requires { ⌜ (at ≤ end) × (end ≤ length (now bytes)) ⌝ }
     ensures { λ r. ⌜ Keeps at end (now (bytes .entry)) (now (bytes .exit)) r ⌝ }
 {
-    if end < 262144 {
+    if end < bytes.len() {
         return Left::Bytes(at, end);
     }
     if LONGEST <= end - at {
@@ -56,9 +56,9 @@ fn answer(bytes: &[u8], at: usize) -> Left
 }
 
 // One sheet, with what is read for it.
-fn turn(bytes: &mut [u8; 262144], at: usize, end: usize) -> Left
-    requires { ⌜ (at ≤ end) × (end ≤ 262144) ⌝ }
-    ensures { λ r. ⌜ Within 262144 r ⌝ }
+fn turn(bytes: &mut [u8], at: usize, end: usize) -> Left
+    requires { ⌜ (at ≤ end) × (end ≤ length (now bytes)) ⌝ }
+    ensures { λ r. ⌜ Within (length (now (bytes .entry))) r ⌝ }
 {
     let Left::Bytes(from, to) = more(bytes, at, end) else {
         return Left::Nothing;
@@ -69,19 +69,24 @@ fn turn(bytes: &mut [u8; 262144], at: usize, end: usize) -> Left
     answer(&bytes[0..to], from)
 }
 
-// A proved loop has to end, and nothing says that the input does: so it counts its turns down from a number that no run uses up.
-fn main() {
-    let mut bytes = [0u8; 262144];
+// Answers sheet after sheet. A proved loop has to end, and nothing says that the input does: so the loop counts its turns down,
+// from a number that no run uses up.
+fn answer_all(bytes: &mut [u8]) {
     // nothing is left of a full buffer, so that the first turn reads
-    let mut at: usize = 262144;
-    let mut end: usize = 262144;
+    let mut at = bytes.len();
+    let mut end = bytes.len();
     let mut turns = u64::MAX;
     while 0 < turns {
-        let Left::Bytes(from, to) = turn(&mut bytes, at, end) else {
+        let Left::Bytes(from, to) = turn(bytes, at, end) else {
             return;
         };
         at = from;
         end = to;
         turns -= 1;
     }
+}
+
+fn main() {
+    let mut bytes = [0u8; 262144];
+    answer_all(&mut bytes);
 }
