@@ -1,20 +1,19 @@
 -- From the lines and the job file that were read to the sheet that stands there.
 use mathlib.Core.Path.{_≡_, refl, sym, _∙_, ap, subst}
-use Prim.Native.Nat.{ℕ, _+_, _-_, _≤_}
+use Prim.Native.Nat.{ℕ, _+_, _≤_}
 use native.Mathlib.Omega.{arith}
 use mathlib.Core.Bool.{Bool, true, false, cond}
-use mathlib.Core.List.{List, [], _∷_, _++_}
+use mathlib.Core.List.{List, [], _++_}
 use lib.Dec.{eqb}
-use lib.ListN.{length, take, drop, replicate, length-append, length-replicate}
+use lib.ListN.{length, take, replicate, length-append}
 use Rattle.model.specs.Job.{vehicleCount, stopCount}
-use Rattle.model.specs.Run.{Task}
 use Rattle.model.specs.File.{fileOf, printedRefusal, Stands, AcceptedAt}
 use Rattle.model.proofs.Pieces.{stands-within, part, join}
 use Rattle.model.proofs.Tasks as tasks
 use Rattle.job_file.specs.declared.Header.{Header}
 use Rattle.job_file.specs.declared.TaskRead.{TaskRead}
 use Rattle.job_file.specs.declared.TaskRead.the-variants as T
-use Rattle.job_file.specs.Reading.{headerOf, Buffers, Room, over, ReadAt}
+use Rattle.job_file.specs.Reading.{Buffers, Room, over, ReadAt}
 use Rattle.answers.specs.Answers.{blank, Holds}
 use Rattle.answers.proofs.Laws.{bounds, over-front, take-replicate, prints-within}
 use Rattle.printing.specs.Printing.{Prints}

@@ -1,19 +1,18 @@
 -- The call of a sheet whose lists stand at the front of others.
-use mathlib.Core.Path.{_≡_, refl, sym, _∙_, ap, subst}
+use mathlib.Core.Path.{_≡_, sym, _∙_, ap, subst}
 use Prim.Native.Nat.{ℕ, _+_, _-_, _≤_}
 use native.Mathlib.Omega.{arith}
 use mathlib.Core.Bool.{Bool, true, false, cond}
 use mathlib.Core.List.{List, []}
 use lib.ListN.{length, take, length-take}
-use Rattle.model.specs.Run.{Task}
 use Rattle.job_file.specs.declared.Header.{Header}
 use Rattle.job_file.specs.Reading.{Buffers}
 use Rattle.answers.proofs.Laws.{taskIn, same-task}
 use Rattle.printing.specs.Printing.{Prints}
 use Rattle.sheet.specs.Printed.{longestPlan}
 use Rattle.call_sheet.specs.declared.Head.{Head}
-use Rattle.call_sheet.specs.Sheets.{Sheet, callOf, hasGiven, leastGiven, mostGiven, hasPlan, ListFor, printedCall}
-use Rattle.call_sheet.specs.Running.{Runs, planLength, HoldsSheet, ReadySheet, SheetPrints}
+use Rattle.call_sheet.specs.Sheets.{callOf, hasGiven, leastGiven, mostGiven, hasPlan, ListFor, printedCall}
+use Rattle.call_sheet.specs.Running.{Runs, planLength, ReadySheet, SheetPrints}
 
 -- the one or the other is short enough
 pub either-fits : (b : Bool) (x y m : ℕ) → x ≤ m → y ≤ m → cond b x y ≤ m

@@ -4,3 +4,4 @@ pub mod Lines
 pub mod Ran
 pub mod Held
 pub mod Found
+pub mod Longest

@@ -1,22 +1,20 @@
 -- The lines before the job file, one after another: those that were read, and those that any sheet there has.
 use mathlib.Core.Path.{_≡_, refl, sym, _∙_, ap, subst}
-use Prim.Native.Nat.{ℕ, _+_, _*_, _^_, _≤_, _<_}
-use native.Mathlib.Nat.{add-assoc}
+use Prim.Native.Nat.{ℕ, _+_, _≤_, _<_}
 use native.Mathlib.Omega.{arith}
 use mathlib.Core.Bool.{Bool, true, false, cond}
 use mathlib.Core.List.{List, [], _∷_, _++_}
-use lib.ListN.{length, getD, take, drop, length-append}
-use Rattle.model.specs.File.{line, NoneOver, Stands}
+use lib.ListN.{length, getD, length-append}
+use Rattle.model.specs.File.{line, Stands}
 use Rattle.model.proofs.Pieces.{stands-within, part-at, join-at, part, join, Fitting, fitting, fitting-nil, fitting-cons, line-length, same-line}
 use Rattle.job_file.specs.Reading.{over}
 use Rattle.sheet.specs.Printed.{longestPlan}
 use Rattle.call_sheet.specs.declared.Listed.{Listed}
 use Rattle.call_sheet.specs.declared.ListRead.{ListRead}
 use Rattle.call_sheet.specs.declared.ListRead.the-variants as L
-use Rattle.call_sheet.specs.declared.Head.{Head}
 use Rattle.call_sheet.specs.declared.HeadRead.the-variants as H
 use Rattle.call_sheet.specs.Sheets.{hasGiven, leastGiven, mostGiven, hasPlan, lineIf, headOf, ListFor}
-use Rattle.call_sheet.specs.Reading.{Listing, ListAt, ListIf, CallAt, HeadOf, HeadHolds, HeadAt}
+use Rattle.call_sheet.specs.Reading.{Listing, ListAt, ListIf, CallAt, HeadOf, HeadAt}
 use Rattle.call_sheet.proofs.Lists.{same-list}
 
 -- ---- a line that a call has, or has not

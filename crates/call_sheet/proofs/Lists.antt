@@ -1,22 +1,19 @@
 -- Lines of numbers: how many numbers stand in one.
 use mathlib.Core.Path.{_≡_, refl, sym, _∙_, ap}
-use Prim.Native.Nat.{ℕ, zero, suc, _+_, _-_, _*_, _/_, _%_, _^_, _≤_, _<_}
+use Prim.Native.Nat.{ℕ, zero, suc, _+_, _-_, _*_, _%_, _^_, _≤_, _<_}
 use native.Mathlib.Omega.{arith}
-use mathlib.Core.Bool.{Bool, true, false}
 use mathlib.Core.List.{List, [], _∷_, _++_}
 use borrow.Author.Tests.{ltb-true, ltb-false}
 use lib.Dec.{ltb}
-use lib.ListN.{length, getD, take, drop, replicate}
-use lib.Seq.{drop-cons}
-use Rattle.model.specs.File.{space, lineFeed, digit, digits, columns, fields, line, lines, NoneOver, Stands}
+use lib.ListN.{length, getD, drop, replicate}
+use lib.Seq.{drop-cons, take-all}
+use Rattle.model.specs.File.{space, lineFeed, digit, digits, columns, line, lines, Stands}
 use Rattle.model.proofs.Columns.{tested, by-digits, digits-small, digits-more, columns-length}
-use Rattle.model.proofs.Pieces.{stands-within, part, fitting, field-at, line-length, lines-one, same-line}
-use lib.Seq.{take-all}
+use Rattle.model.proofs.Pieces.{stands-within, fitting, field-at, lines-one, same-line}
 use Rattle.columns.specs.declared.Field.{Field}
 use Rattle.columns.specs.declared.Field.the-variants.{Number, Bad}
 use Rattle.columns.specs.Field.{FieldAt}
-use Rattle.job_file.specs.Standing.{LineAt, LinesAt, Fillable, Filled}
-use Rattle.job_file.specs.Reading.{over}
+use Rattle.job_file.specs.Standing.{LineAt, Fillable, Filled}
 use Rattle.job_file.proofs.Checks.{line-start, line-end}
 use Rattle.call_sheet.specs.declared.ListRead.the-variants as L
 use Rattle.call_sheet.specs.Reading.{Listing, CountAt, ListAt}

@@ -6,7 +6,6 @@ use mathlib.Core.List.{List, [], _∷_}
 use lib.ListN.{length}
 use Rattle.model.specs.File.{line, NoneOver, Stands}
 use Rattle.job_file.specs.Reading.{over}
-use Rattle.call_sheet.specs.declared.Listed.{Listed}
 use Rattle.call_sheet.specs.declared.ListRead.{ListRead}
 use Rattle.call_sheet.specs.declared.ListRead.the-variants as L
 use Rattle.call_sheet.specs.declared.Head.{Head}

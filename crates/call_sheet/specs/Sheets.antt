@@ -82,6 +82,10 @@ pub record SheetAt (bytes : List ℕ) (from to : ℕ) (S : Sheet) : Type 0 where
   pub end : to ≡ from + length (sheetOf S)
   pub readable : ReadableSheet S
 
+-- the most bytes that a sheet has: its number's line, 8 given stops, a plan of 96 numbers, and the longest job file
+abbrev pub longestSheet : ℕ
+longestSheet = 15 + 113 + 1345 + 106592
+
 -- ---- what is printed for a sheet
 
 -- a job for a call that knows no prices

@@ -4,7 +4,7 @@ use job_file::Header;
 use job_file::TaskRead;
 use model::Prices;
 ghost use mathlib.Core.Path.{_≡_};
-ghost use Prim.Native.Nat.{ℕ, _≤_};
+ghost use Prim.Native.Nat.{_≤_};
 ghost use lib.ListN.{length};
 ghost use Rattle.model.specs.Job.{jobOf};
 ghost use Rattle.job_file.specs.Reading.{buffers};

@@ -7,8 +7,8 @@ ghost use Prim.Native.Nat.{_≤_};
 ghost use lib.ListN.{length};
 ghost use Rattle.calls.specs.Rest.{Within, Keeps};
 
-// More than any sheet has: 15 bytes, 113, 1,345, and 106,592 of its job file.
-const LONGEST: usize = 131072;
+// The most bytes that a sheet has: 15, 113, 1,345, and 106,592 of its job file. Where so many are left, nothing after them matters.
+const LONGEST: usize = 108065;
 
 // Where the bytes that are left to answer begin and end in the buffer; or that there is nothing more to do.
 enum Left {

@@ -10,9 +10,6 @@ use Rattle.call_sheet.specs.Reading.{Listing}
 use Rattle.call_sheet.proofs.Lists.{goes-on, ends}
 use Rattle.call_sheet.proofs.count_fields.Statement.{statement}
 use Rattle.call_sheet.proofs.count_fields.Tie as tie
-use Rattle.call_sheet.proofs.count_fields.Reads as reads
-use Rattle.call_sheet.proofs.count_fields.Lts as lts
-use Rattle.columns.proofs.read_field.Reads as read-field-reads
 
 abbrev Inv-loop : tie.InvT-loop
 Inv-loop bytes at most next₀ i₀ next i =
@@ -30,39 +27,32 @@ read-field-requires c κs = search needs
 enum-told : tie.Need-enum-told Inv-loop μ-loop
 enum-told c = search needs
 
--- src/lib.rt:48:13
 enum-told-2 : tie.Need-enum-told-2 Inv-loop μ-loop
 enum-told-2 c = search needs
 
--- src/lib.rt:48:13
 returns : tie.Need-returns Inv-loop μ-loop
 returns c =
     let read = c .before .before .read-field in
     let inv = c .before .before .before .before .loop .inv in
     record { few = inv .1; count = λ ns h. ends _ _ _ _ (read .result) (inv .0) (read .ensures) (c .enum-told2 .given .1) ns h (inv .2 ns h) }
 
--- src/lib.rt:50:9
 add-next : tie.Need-add-next Inv-loop μ-loop
 add-next c =
     let read = c .before .before .read-field in
     omega (arith, field-within _ _ _ (read .result) (read .ensures) (c .enum-told .given .1))
 
--- src/lib.rt:51:9
 add-i : tie.Need-add-i Inv-loop μ-loop
 add-i c = omega arith
 
--- src/lib.rt:46:5
 loop-less : tie.Need-loop-less Inv-loop μ-loop
 loop-less c = omega arith
 
--- src/lib.rt:46:5
 loop-again : tie.Need-loop-again Inv-loop μ-loop
 loop-again c =
     let read = c .before .before .read-field in
     let inv = c .before .before .before .before .loop .inv in
     (omega arith, omega arith, λ ns h. goes-on _ _ _ _ _ (read .result) (inv .0) (read .ensures) (c .enum-told .given .1) ns h (inv .2 ns h))
 
--- src/lib.rt:41:1
 returns-2 : tie.Need-returns-2 Inv-loop μ-loop
 returns-2 c =
     let inv = c .before .loop .inv in

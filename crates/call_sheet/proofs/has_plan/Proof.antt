@@ -1,5 +1,4 @@
 -- `call_sheet::has_plan` meets its contract.
-use mathlib.Core.Path.{sym}
 use borrow.Author.Tests.{ne-eqb}
 use Rattle.call_sheet.proofs.has_plan.Statement.{statement}
 use Rattle.call_sheet.proofs.has_plan.Tie as tie
