@@ -120,7 +120,7 @@ taskIn h m =
     (h .limit)
     (take (h .draws - 0) (m .draws))
 
-same-task : (h : Header) (m : Buffers) (T : Task) → Holds h m T → taskIn h m ≡ T
+pub same-task : (h : Header) (m : Buffers) (T : Task) → Holds h m T → taskIn h m ≡ T
 same-task h m T k =
     let r = k .readable in
     let e = k .header in
@@ -130,7 +130,7 @@ same-task h m T k =
     let rs = front (h .draws) _ (m .draws) (ap (λ x. x .draws) e) (k .draws) in
     λ i. taskOn (vs i) (ss i) (e i .locations) (ds i) (e i .prices) (e i .smoothing) (e i .limit) (rs i)
 
-take-replicate : (k m x : ℕ) → k ≤ m → take k (replicate m x) ≡ replicate k x
+pub take-replicate : (k m x : ℕ) → k ≤ m → take k (replicate m x) ≡ replicate k x
 take-replicate zero m x h = refl
 take-replicate (suc k) zero x h = absurd (omega arith)
 take-replicate (suc k) (suc m) x h = ap (λ (l : List ℕ). x ∷ l) (take-replicate k m x (omega arith))
@@ -158,11 +158,11 @@ task-prints h m old new r p T k = subst (λ U. Prints old new r (printedTask U))
 -- ---- a file that is read
 
 -- a list laid over another is its front
-over-front : (xs ys : List ℕ) → take (length xs) (over xs ys) ≡ xs
+pub over-front : (xs ys : List ℕ) → take (length xs) (over xs ys) ≡ xs
 over-front xs ys = take-at xs (drop (length xs) ys) (length xs) refl
 
 -- what is printed fits, since no byte is added
-prints-within : (old new : List ℕ) (r : ℕ) (text : List ℕ) → Prints old new r text → length new ≡ length old → r ≤ length old
+pub prints-within : (old new : List ℕ) (r : ℕ) (text : List ℕ) → Prints old new r text → length new ≡ length old → r ≤ length old
 unfolding written
 prints-within old new r text p l = omega (arith, p .count, simp (length-append, length-drop) at (ap length (p .same)))
 

@@ -17,7 +17,7 @@ use Rattle.job_file.proofs.First.{fields-known}
 
 module _ (bytes : List ℕ) (at : ℕ) where
   -- a line of one number that was read is the line of that number
-  one-number : (x : ℕ) (h : LineAt bytes at 1) → NumberAt bytes at x → h .numbers ≡ x ∷ []
+  pub one-number : (x : ℕ) (h : LineAt bytes at 1) → NumberAt bytes at x → h .numbers ≡ x ∷ []
   one-number x h n =
       fields-known bytes at (h .numbers) (x ∷ []) (h .count) (h .small) (line-start bytes at 1 h) λ i l.
       one i l

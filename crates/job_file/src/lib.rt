@@ -68,7 +68,7 @@ fn check_fields(bytes: &[u8], at: usize, count: usize) -> bool
 }
 
 // Whether a line of so many numbers stands there.
-fn check_line(bytes: &[u8], at: usize, count: usize) -> bool
+pub fn check_line(bytes: &[u8], at: usize, count: usize) -> bool
     ensures { λ r. ⌜ Says r (LineAt (now (bytes .entry)) at count) ⌝ }
 {
     if !check_fields(bytes, at, count) {
@@ -101,7 +101,7 @@ fn check_lines(bytes: &[u8], at: usize, lines: usize, count: usize) -> bool
 }
 
 // The numbers of such lines, written to the front of a list.
-fn fill_lines(bytes: &[u8], at: usize, lines: usize, count: usize, list: &mut [u32])
+pub fn fill_lines(bytes: &[u8], at: usize, lines: usize, count: usize, list: &mut [u32])
     requires { ⌜ Fillable (now bytes) at lines count (now list) ⌝ }
     ensures { λ _. ⌜ Filled (now (bytes .entry)) at lines count (now (list .entry)) (now (list .exit)) ⌝ }
 {
