@@ -1,6 +1,7 @@
 //! The oracle: what the shuttle program and the single calls must print, found by the solver's Rust.
 
 mod original;
+mod record;
 
 use original::Original;
 use plain::Plain;
@@ -14,7 +15,8 @@ use std::{
 
 const USAGE: &str = "\
 usage: oracle shuttle | calls | plain-shuttle | plain-calls < INPUT
-       oracle gen SEED COUNT KIND";
+       oracle gen SEED COUNT KIND
+       oracle record DIRECTORY";
 
 fn main() -> ExitCode {
     match run(&env::args().skip(1).collect::<Vec<_>>()) {
@@ -43,6 +45,9 @@ fn run(arguments: &[String]) -> Result<(), Box<dyn Error>> {
             for text in generate::texts(seed.parse()?, count.parse()?, kind.parse()?) {
                 output.write_all(&text)?
             }
+        }
+        ["record", directory] => {
+            output.write_all(record::record::<Original>(directory.as_ref())?.as_bytes())?
         }
         _ => return Err(USAGE.into()),
     }
