@@ -1,9 +1,8 @@
 //! The oracle: what the shuttle program and the single calls must print, found by the solver's Rust.
 
-mod original;
 mod record;
 
-use original::Original;
+use oracle::Original;
 use plain::Plain;
 use sheet::{answer_sheets, shuttle};
 use std::{

@@ -76,12 +76,19 @@ pub fn small_job(random: &mut Random) -> Job {
 
 /// A job with every list at its limit, which does not settle soon.
 pub fn largest_job(random: &mut Random) -> Job {
+    long_job(random, Sizes::LARGE)
+}
+
+/// A job of these sizes that places all stops and does not settle soon.
+pub fn long_job(random: &mut Random, sizes: Sizes) -> Job {
+    let last = sizes.locations as u32 - 1;
+
     Job {
-        vehicles: (0..16)
-            .map(|_| [0; 2].map(|_| random.small(0..=79)))
+        vehicles: (0..sizes.vehicles)
+            .map(|_| [0; 2].map(|_| random.small(0..=last)))
             .collect(),
-        stops: (0..64).map(|_| random.small(0..=79)).collect(),
-        distances: plane(random, 80, MAX_DISTANCE),
+        stops: (0..sizes.stops).map(|_| random.small(0..=last)).collect(),
+        distances: plane(random, sizes.locations as usize, MAX_DISTANCE),
         linear: 1_000_000,
         quadratic: random.choose(&[0, 16]),
         missed: MAX_MISSED_PRICE,

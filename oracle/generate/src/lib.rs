@@ -8,7 +8,11 @@ mod recorded_refusals;
 mod refused;
 mod sheet;
 
-pub use crate::{job::sufficient, random::Random, recorded::recorded_sheets};
+pub use crate::{
+    job::{long_job, sufficient, Sizes},
+    random::Random,
+    recorded::recorded_sheets,
+};
 
 use ::sheet::{write_job, write_sheet, Call};
 use std::{fmt, str::FromStr};
