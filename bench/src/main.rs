@@ -1,5 +1,6 @@
 //! Measures the proved planner, the solver's Rust and the plain rewrite on the same jobs in one process, and prints tables.
 
+mod clock;
 mod proved;
 mod stack;
 mod times;
@@ -38,12 +39,14 @@ pub const SIDES: [Side; 3] = [
 ];
 
 /// A job of these numbers of vehicles, stops and locations that does not settle within some thousand rounds.
-pub fn job([vehicles, stops, locations]: [u64; 3], limit: u32) -> Job {
-    let random = &mut generate::Random::new(1, 1);
+pub fn job([vehicles, stops, locations]: [u64; 3], index: u64, limit: u32) -> Job {
+    let random = &mut generate::Random::new(1, index);
+    let sizes = generate::Sizes::new(vehicles, stops, locations);
 
     Job {
         limit,
-        ..generate::long_job(random, generate::Sizes::new(vehicles, stops, locations))
+        quadratic: 16 * (index % 2) as u32,
+        ..generate::long_job(random, sizes)
     }
 }
 
@@ -75,7 +78,7 @@ fn run(arguments: &[String]) -> Option<String> {
         ["run", side, vehicles, stops, locations, limit] => {
             let sizes = [vehicles, stops, locations].map(|word| word.parse().unwrap_or(1));
             let side = SIDES.iter().find(|other| other.name == side)?;
-            let (run, _) = (side.solve)(&job(sizes, limit.parse().ok()?));
+            let (run, _) = (side.solve)(&job(sizes, 0, limit.parse().ok()?));
 
             Some(format!("{run:?}\n"))
         }

@@ -63,8 +63,8 @@ fn ends(call: &str, size: usize) -> bool {
 /// Makes the call on a stack of so many KiB. Too small a stack ends the process.
 pub fn call(call: &str, size: usize) {
     let job = match call {
-        "exhaustive" | "pruned" => job(EXHAUSTIVE, 1),
-        _ => job(LARGEST, 200),
+        "exhaustive" | "pruned" => job(EXHAUSTIVE, 0, 1),
+        _ => job(LARGEST, 0, 200),
     };
     let call = call.to_string();
 

@@ -1,55 +1,60 @@
-use crate::{job, Side, SIDES};
-use std::time::{Duration, Instant};
+use crate::{clock::thread_time, job, Side, SIDES};
+use std::time::Duration;
 
-/// Rounds before those that are timed, so that start plan and tables cancel out.
+/// Rounds before those that are timed, so that reading the job, tables and start plan cancel out.
 const FIRST: u32 = 10;
+const ROUNDS: u32 = 50;
+/// How often each run is timed at least, and for how long. The least time counts.
+const MIN_TIMES: usize = 3;
+const MIN_TIME: Duration = Duration::from_millis(300);
+const JOBS: u64 = 4;
 const SIZES: [[u64; 3]; 3] = [[4, 20, 24], [8, 40, 48], [16, 64, 80]];
-const STOP_COUNTS: [u64; 7] = [8, 16, 24, 32, 40, 52, 64];
+const STOP_COUNTS: [u64; 6] = [8, 16, 24, 32, 48, 64];
 const ROUND_COUNTS: [u32; 4] = [500, 1_000, 2_000, 4_000];
 
 pub fn tables() -> String {
-    SIZES.iter().for_each(|&sizes| check(sizes));
+    for sizes in SIZES {
+        (0..JOBS).for_each(|index| check(sizes, index));
+    }
 
     [by_size(), by_stops(), by_rounds()].join("\n")
 }
 
 /// All sides give the same answer, and no run settles before its limit.
-fn check(sizes: [u64; 3]) {
-    let job = job(sizes, 100);
+fn check(sizes: [u64; 3], index: u64) {
+    let job = job(sizes, index, FIRST + ROUNDS);
     let answers = SIDES.map(|side| (side.solve)(&job));
 
     assert!(answers.iter().all(|answer| *answer == answers[0]));
     assert!(!answers[0].0.settled);
 }
 
-/// The time of a call, the least of as many as go into half a second.
-fn least_time(mut call: impl FnMut()) -> Duration {
-    let start = Instant::now();
-    let mut least = Duration::MAX;
+/// The time of a run in seconds.
+fn run_time(side: &Side, sizes: [u64; 3], index: u64, limit: u32) -> f64 {
+    let job = job(sizes, index, limit);
+    let start = thread_time();
+    let mut times = vec![];
 
-    while least == Duration::MAX || start.elapsed() < Duration::from_millis(500) {
-        let start = Instant::now();
+    while times.len() < MIN_TIMES || thread_time() - start < MIN_TIME {
+        let start = thread_time();
+        let (run, _) = (side.solve)(&job);
 
-        call();
-        least = least.min(start.elapsed());
+        times.push(thread_time() - start);
+        assert_eq!(run.rounds, limit as u64);
     }
 
-    least
+    times.into_iter().min().unwrap_or_default().as_secs_f64()
 }
 
 /// Microseconds of a round.
 fn round_time(side: &Side, sizes: [u64; 3]) -> f64 {
-    let rounds = if side.name == "oracle" { 100 } else { 1_000 };
-    let time = |limit| {
-        let job = job(sizes, limit);
-
-        least_time(|| {
-            (side.solve)(&job);
+    let seconds = (0..JOBS)
+        .map(|index| {
+            run_time(side, sizes, index, FIRST + ROUNDS) - run_time(side, sizes, index, FIRST)
         })
-    };
-    let (short, long) = (time(FIRST), time(FIRST + rounds));
+        .sum::<f64>();
 
-    long.saturating_sub(short).as_secs_f64() * 1e6 / rounds as f64
+    seconds * 1e6 / (JOBS * ROUNDS as u64) as f64
 }
 
 fn by_size() -> String {
@@ -91,19 +96,9 @@ fn by_rounds() -> String {
         .to_string();
 
     for rounds in ROUND_COUNTS {
-        let job = job(SIZES[2], rounds);
-        let [proved, _, plain] = SIDES.map(|side| {
-            if side.name == "oracle" {
-                return 0.0;
-            }
-
-            assert_eq!((side.solve)(&job).0.rounds, rounds as u64);
-            least_time(|| {
-                (side.solve)(&job);
-            })
-            .as_secs_f64()
-                * 1e3
-        });
+        let [proved, _, plain] = SIDES;
+        let [proved, plain] =
+            [proved, plain].map(|side| run_time(&side, SIZES[2], 0, rounds) * 1e3);
 
         text += &format!("| {rounds} | {proved:.1} | {plain:.1} |\n");
     }
