@@ -1,17 +1,22 @@
 //! Measures the proved planner, the solver's Rust and the plain rewrite on the same jobs in one process, and prints tables.
 
+mod calls;
 mod clock;
 mod proved;
 mod stack;
 mod times;
 
-use proved::Proved;
-use sheet::{Job, Planner, Routes, Run};
-use std::{env, process::ExitCode};
+use sheet::{answer_sheets_by, encode, Job, Planner, Routes, Run};
+use std::{
+    env,
+    io::{self, Read},
+    process::ExitCode,
+};
 
 const USAGE: &str = "\
 usage: bench times                     tables of times
        bench stack                     a table of the least stacks
+       bench calls < SHEETS            the answers of call sheets by the static library
        bench run SIDE V N L LIMIT      one run, to be looked at by other tools
        bench call CALL KIBIBYTES       one call on a stack of that size
 SIDE: proved, oracle or plain";
@@ -20,23 +25,37 @@ SIDE: proved, oracle or plain";
 #[derive(Clone, Copy)]
 pub struct Side {
     pub name: &'static str,
-    pub solve: fn(&Job) -> (Run, Routes),
+    pub solve: fn(&Job) -> (Run, Vec<u32>),
 }
 
 pub const SIDES: [Side; 3] = [
     Side {
         name: "proved",
-        solve: Proved::solve,
+        solve: solve_proved,
     },
     Side {
         name: "oracle",
-        solve: oracle::Original::solve,
+        solve: |job| planned(job, oracle::Original::solve),
     },
     Side {
         name: "plain",
-        solve: plain::Plain::solve,
+        solve: |job| planned(job, plain::Plain::solve),
     },
 ];
+
+fn solve_proved(job: &Job) -> (Run, Vec<u32>) {
+    let mut plan = proved::unused(job);
+    let run = proved::solve(job, &mut plan).expect("an accepted job");
+
+    (run, plan)
+}
+
+/// A run of one of the others, with its plan in the same form.
+fn planned(job: &Job, solve: fn(&Job) -> (Run, Routes)) -> (Run, Vec<u32>) {
+    let (run, routes) = solve(job);
+
+    (run, encode(&routes, job.stops.len()))
+}
 
 /// A job of these numbers of vehicles, stops and locations that does not settle within some thousand rounds.
 pub fn job([vehicles, stops, locations]: [u64; 3], index: u64, limit: u32) -> Job {
@@ -71,6 +90,7 @@ fn run(arguments: &[String]) -> Option<String> {
     match words[..] {
         ["times"] => Some(times::tables()),
         ["stack"] => Some(stack::table()),
+        ["calls"] => answer_sheets(),
         ["call", call, size] => {
             stack::call(call, size.parse().ok()?);
             Some(String::new())
@@ -84,4 +104,13 @@ fn run(arguments: &[String]) -> Option<String> {
         }
         _ => None,
     }
+}
+
+fn answer_sheets() -> Option<String> {
+    let (mut input, mut output) = (vec![], vec![]);
+
+    io::stdin().lock().read_to_end(&mut input).ok()?;
+    answer_sheets_by(calls::answer, &input, &mut output).ok()?;
+
+    String::from_utf8(output).ok()
 }

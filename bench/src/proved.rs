@@ -1,6 +1,6 @@
 //! The proved planner, called as include/planner.h declares it: a list is its address and its length.
 
-use sheet::{decode, Job, Planner, Routes, Run, UNUSED};
+use sheet::{Job, Run, UNUSED};
 
 #[rustfmt::skip]
 extern "C" {
@@ -62,121 +62,122 @@ impl<'a> Lists<'a> {
     }
 }
 
-pub struct Proved {}
+/// What a call answers where it is accepted, or the number of its refusal.
+pub type Answer<T> = Result<T, u32>;
 
 #[rustfmt::skip]
-impl Planner for Proved {
-    fn weigh(job: &Job, routes: &Routes) -> u64 {
-        let (lists, plan, mut cost) = (Lists::new(job), sheet::encode(routes, job.stops.len()), 0.0);
+pub fn weigh(job: &Job, plan: &[u32]) -> Answer<f64> {
+    let (lists, mut cost) = (Lists::new(job), 0.0);
+    let number = unsafe {
+        planner_weigh(
+            lists.vehicles.as_ptr(), lists.vehicles.len(), job.stops.as_ptr(), job.stops.len(), lists.locations(),
+            lists.distances.as_ptr(), lists.distances.len(), job.linear, job.quadratic, job.missed,
+            plan.as_ptr(), plan.len(), &mut cost,
+        )
+    };
 
-        accepted(unsafe {
-            planner_weigh(
-                lists.vehicles.as_ptr(), lists.vehicles.len(), job.stops.as_ptr(), job.stops.len(), lists.locations(),
-                lists.distances.as_ptr(), lists.distances.len(), job.linear, job.quadratic, job.missed,
-                plan.as_ptr(), plan.len(), &mut cost,
-            )
-        });
-        cost as u64
-    }
+    answer(number, cost)
+}
 
-    fn start_plan(job: &Job) -> Routes {
-        let (lists, mut plan) = (Lists::new(job), unused(job));
+#[rustfmt::skip]
+pub fn start_plan(job: &Job, plan: &mut [u32]) -> Answer<()> {
+    let lists = Lists::new(job);
+    let number = unsafe {
+        planner_start_plan(
+            lists.vehicles.as_ptr(), lists.vehicles.len(), job.stops.as_ptr(), job.stops.len(), lists.locations(),
+            lists.distances.as_ptr(), lists.distances.len(), plan.as_mut_ptr(), plan.len(),
+        )
+    };
 
-        accepted(unsafe {
-            planner_start_plan(
-                lists.vehicles.as_ptr(), lists.vehicles.len(), job.stops.as_ptr(), job.stops.len(), lists.locations(),
-                lists.distances.as_ptr(), lists.distances.len(), plan.as_mut_ptr(), plan.len(),
-            )
-        });
-        routes(job, &plan)
-    }
+    answer(number, ())
+}
 
-    fn two_opt(job: &Job, plan: &Routes, stops: [usize; 2]) -> Routes {
-        let (lists, mut plan, mut cost) = (Lists::new(job), sheet::encode(plan, job.stops.len()), 0.0);
+#[rustfmt::skip]
+pub fn two_opt(job: &Job, plan: &mut [u32], [first, second]: [u32; 2]) -> Answer<f64> {
+    let (lists, mut cost) = (Lists::new(job), 0.0);
+    let number = unsafe {
+        planner_two_opt(
+            lists.vehicles.as_ptr(), lists.vehicles.len(), job.stops.as_ptr(), job.stops.len(), lists.locations(),
+            lists.distances.as_ptr(), lists.distances.len(), job.linear, job.quadratic, job.missed,
+            plan.as_mut_ptr(), plan.len(), first, second, &mut cost,
+        )
+    };
 
-        accepted(unsafe {
-            planner_two_opt(
-                lists.vehicles.as_ptr(), lists.vehicles.len(), job.stops.as_ptr(), job.stops.len(), lists.locations(),
-                lists.distances.as_ptr(), lists.distances.len(), job.linear, job.quadratic, job.missed,
-                plan.as_mut_ptr(), plan.len(), stops[0] as u32, stops[1] as u32, &mut cost,
-            )
-        });
-        routes(job, &plan)
-    }
+    answer(number, cost)
+}
 
-    fn rebuild(job: &Job, plan: &Routes, stops: &[usize]) -> Routes {
-        let (lists, mut plan, mut cost) = (Lists::new(job), sheet::encode(plan, job.stops.len()), 0.0);
-        let given = stops.iter().map(|&stop| stop as u32).collect::<Vec<_>>();
+#[rustfmt::skip]
+pub fn rebuild(job: &Job, plan: &mut [u32], given: &[u32]) -> Answer<f64> {
+    let (lists, mut cost) = (Lists::new(job), 0.0);
+    let number = unsafe {
+        planner_rebuild(
+            lists.vehicles.as_ptr(), lists.vehicles.len(), job.stops.as_ptr(), job.stops.len(), lists.locations(),
+            lists.distances.as_ptr(), lists.distances.len(), job.linear, job.quadratic, job.missed,
+            plan.as_mut_ptr(), plan.len(), given.as_ptr(), given.len(), &mut cost,
+        )
+    };
 
-        accepted(unsafe {
-            planner_rebuild(
-                lists.vehicles.as_ptr(), lists.vehicles.len(), job.stops.as_ptr(), job.stops.len(), lists.locations(),
-                lists.distances.as_ptr(), lists.distances.len(), job.linear, job.quadratic, job.missed,
-                plan.as_mut_ptr(), plan.len(), given.as_ptr(), given.len(), &mut cost,
-            )
-        });
-        routes(job, &plan)
-    }
+    answer(number, cost)
+}
 
-    fn exhaustive(job: &Job) -> Routes {
-        let (lists, mut plan, mut cost) = (Lists::new(job), unused(job), 0.0);
+#[rustfmt::skip]
+pub fn exhaustive(job: &Job, plan: &mut [u32]) -> Answer<f64> {
+    let (lists, mut cost) = (Lists::new(job), 0.0);
+    let number = unsafe {
+        planner_exhaustive(
+            lists.vehicles.as_ptr(), lists.vehicles.len(), job.stops.as_ptr(), job.stops.len(), lists.locations(),
+            lists.distances.as_ptr(), lists.distances.len(), job.linear, job.quadratic, job.missed,
+            plan.as_mut_ptr(), plan.len(), &mut cost,
+        )
+    };
 
-        accepted(unsafe {
-            planner_exhaustive(
-                lists.vehicles.as_ptr(), lists.vehicles.len(), job.stops.as_ptr(), job.stops.len(), lists.locations(),
-                lists.distances.as_ptr(), lists.distances.len(), job.linear, job.quadratic, job.missed,
-                plan.as_mut_ptr(), plan.len(), &mut cost,
-            )
-        });
-        routes(job, &plan)
-    }
+    answer(number, cost)
+}
 
-    fn pruned(job: &Job) -> Routes {
-        let (lists, mut plan, mut cost) = (Lists::new(job), unused(job), 0.0);
+#[rustfmt::skip]
+pub fn pruned(job: &Job, plan: &mut [u32]) -> Answer<f64> {
+    let (lists, mut cost) = (Lists::new(job), 0.0);
+    let number = unsafe {
+        planner_pruned(
+            lists.vehicles.as_ptr(), lists.vehicles.len(), job.stops.as_ptr(), job.stops.len(), lists.locations(),
+            lists.distances.as_ptr(), lists.distances.len(), job.linear, job.quadratic, job.missed,
+            plan.as_mut_ptr(), plan.len(), &mut cost,
+        )
+    };
 
-        accepted(unsafe {
-            planner_pruned(
-                lists.vehicles.as_ptr(), lists.vehicles.len(), job.stops.as_ptr(), job.stops.len(), lists.locations(),
-                lists.distances.as_ptr(), lists.distances.len(), job.linear, job.quadratic, job.missed,
-                plan.as_mut_ptr(), plan.len(), &mut cost,
-            )
-        });
-        routes(job, &plan)
-    }
+    answer(number, cost)
+}
 
-    fn solve(job: &Job) -> (Run, Routes) {
-        let (lists, mut plan) = (Lists::new(job), unused(job));
-        let (mut start, mut end, mut rounds, mut improving, mut settled) = (0.0, 0.0, 0, 0, 0);
+#[rustfmt::skip]
+pub fn solve(job: &Job, plan: &mut [u32]) -> Answer<Run> {
+    let lists = Lists::new(job);
+    let (mut start, mut end, mut rounds, mut improving, mut settled) = (0.0, 0.0, 0, 0, 0);
+    let number = unsafe {
+        planner_solve(
+            lists.vehicles.as_ptr(), lists.vehicles.len(), job.stops.as_ptr(), job.stops.len(), lists.locations(),
+            lists.distances.as_ptr(), lists.distances.len(), job.linear, job.quadratic, job.missed,
+            job.smoothing, job.limit, job.draws.as_ptr(), job.draws.len(), plan.as_mut_ptr(), plan.len(),
+            &mut start, &mut end, &mut rounds, &mut improving, &mut settled,
+        )
+    };
 
-        accepted(unsafe {
-            planner_solve(
-                lists.vehicles.as_ptr(), lists.vehicles.len(), job.stops.as_ptr(), job.stops.len(), lists.locations(),
-                lists.distances.as_ptr(), lists.distances.len(), job.linear, job.quadratic, job.missed,
-                job.smoothing, job.limit, job.draws.as_ptr(), job.draws.len(), plan.as_mut_ptr(), plan.len(),
-                &mut start, &mut end, &mut rounds, &mut improving, &mut settled,
-            )
-        });
+    answer(number, Run {
+        start_cost: start as u64,
+        end_cost: end as u64,
+        rounds: rounds as u64,
+        improving_rounds: improving as u64,
+        settled: settled != 0,
+    })
+}
 
-        let run = Run {
-            start_cost: start as u64,
-            end_cost: end as u64,
-            rounds: rounds as u64,
-            improving_rounds: improving as u64,
-            settled: settled != 0,
-        };
-
-        (run, routes(job, &plan))
+fn answer<T>(number: u32, value: T) -> Answer<T> {
+    match number {
+        0 => Ok(value),
+        _ => Err(number),
     }
 }
 
-fn accepted(number: u32) {
-    assert_eq!(number, 0, "a refusal");
-}
-
-fn unused(job: &Job) -> Vec<u32> {
+/// A plan to be written.
+pub fn unused(job: &Job) -> Vec<u32> {
     vec![UNUSED; job.vehicles.len() + job.stops.len()]
-}
-
-fn routes(job: &Job, plan: &[u32]) -> Routes {
-    decode(plan, job.vehicles.len(), job.stops.len()).expect("a plan form")
 }

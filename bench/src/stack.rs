@@ -1,7 +1,7 @@
 //! The least stack on which a call of the proved planner ends, at its largest size.
 
-use crate::{job, proved::Proved};
-use sheet::{Job, Planner, Routes};
+use crate::{job, proved};
+use sheet::{encode, Job};
 use std::{
     env,
     process::{Command, Stdio},
@@ -77,41 +77,31 @@ pub fn call(call: &str, size: usize) {
 }
 
 fn make(call: &str, job: &Job) {
-    match call {
-        "weigh" => {
-            Proved::weigh(job, &full(job));
-        }
-        "start_plan" => {
-            Proved::start_plan(job);
-        }
-        "two_opt" => {
-            Proved::two_opt(job, &full(job), [0, 63]);
-            Proved::two_opt(job, &full(job), [0, 1]);
-        }
+    let mut plan = proved::unused(job);
+    let mut full = full(job);
+    let answers = match call {
+        "weigh" => [proved::weigh(job, &full).map(drop); 2],
+        "start_plan" => [proved::start_plan(job, &mut plan); 2],
+        "two_opt" => [[0, 63], [0, 1]].map(|pair| proved::two_opt(job, &mut full, pair).map(drop)),
         "rebuild" => {
-            Proved::rebuild(job, &full(job), &[0]);
-            Proved::rebuild(job, &full(job), &[0, 63]);
+            [&[0, 63][..], &[0]].map(|picks| proved::rebuild(job, &mut full, picks).map(drop))
         }
-        "exhaustive" => {
-            Proved::exhaustive(job);
-        }
-        "pruned" => {
-            Proved::pruned(job);
-        }
-        "solve" => {
-            Proved::solve(job);
-        }
-        _ => (),
-    }
+        "exhaustive" => [proved::exhaustive(job, &mut plan).map(drop); 2],
+        "pruned" => [proved::pruned(job, &mut plan).map(drop); 2],
+        "solve" => [proved::solve(job, &mut plan).map(drop); 2],
+        _ => [Ok(()); 2],
+    };
+
+    assert_eq!(answers, [Ok(()); 2]);
 }
 
-/// All stops on two vehicles.
-fn full(job: &Job) -> Routes {
+/// All stops on two vehicles, where there are as many.
+fn full(job: &Job) -> Vec<u32> {
     let mut routes = vec![vec![]; job.vehicles.len()];
 
     for stop in 0..job.stops.len() {
         routes[stop / 32].push(stop);
     }
 
-    routes
+    encode(&routes, job.stops.len())
 }

@@ -1,0 +1,42 @@
+//! The answers of call sheets by the static library, its refusals among them.
+
+use crate::proved::{self, Answer};
+use sheet::{costs, numbers, run_line, Call, Sheet};
+
+pub fn answer(sheet: &Sheet) -> String {
+    let mut plan = if sheet.call.has_plan() {
+        sheet.plan.clone()
+    } else {
+        proved::unused(&sheet.job)
+    };
+    let before = plan.clone();
+    let answer = call(sheet, &mut plan);
+    let plan_line = match sheet.call {
+        Call::Weigh => String::new(),
+        _ => numbers(&plan),
+    };
+
+    match answer {
+        Ok(line) => line + &plan_line,
+        Err(number) => {
+            assert_eq!(plan, before, "a refused call's plan");
+            costs([number as u64])
+        }
+    }
+}
+
+/// Makes the call, and answers the line of its cost or its run.
+fn call(sheet: &Sheet, plan: &mut [u32]) -> Answer<String> {
+    let job = &sheet.job;
+    let line = |cost: f64| costs([cost as u64]);
+
+    match sheet.call {
+        Call::Weigh => proved::weigh(job, plan).map(line),
+        Call::StartPlan => proved::start_plan(job, plan).map(|()| String::new()),
+        Call::TwoOpt => proved::two_opt(job, plan, [sheet.given[0], sheet.given[1]]).map(line),
+        Call::Rebuild => proved::rebuild(job, plan, &sheet.given).map(line),
+        Call::Exhaustive => proved::exhaustive(job, plan).map(line),
+        Call::Pruned => proved::pruned(job, plan).map(line),
+        Call::Solve => proved::solve(job, plan).map(run_line),
+    }
+}
