@@ -40,3 +40,60 @@ fn call(sheet: &Sheet, plan: &mut [u32]) -> Answer<String> {
         Call::Solve => proved::solve(job, plan).map(run_line),
     }
 }
+
+#[cfg(test)]
+mod tests {
+    use super::*;
+    use sheet::Job;
+
+    fn sheet(call: Call) -> Sheet {
+        Sheet {
+            call,
+            given: vec![0, 1],
+            plan: vec![2, 0, 1],
+            job: Job {
+                vehicles: vec![[0, 0]],
+                stops: vec![1, 2],
+                distances: vec![vec![0, 2, 3], vec![2, 0, 9], vec![9, 1, 0]],
+                linear: 1,
+                quadratic: 0,
+                missed: 100,
+                smoothing: 1,
+                limit: 50,
+                draws: vec![0],
+            },
+        }
+    }
+
+    /// Checks the number that each of the calls refuses a changed sheet with; the others accept it.
+    fn check(calls: &[Call], number: u32, change: impl Fn(&mut Sheet)) {
+        for call in Call::ALL {
+            let mut sheet = sheet(call);
+
+            change(&mut sheet);
+
+            let mut plan = sheet.plan.clone();
+
+            assert_eq!(
+                super::call(&sheet, &mut plan).err(),
+                calls.contains(&call).then_some(number),
+                "{call:?}"
+            );
+        }
+    }
+
+    #[test]
+    fn refuses_lists_that_no_sheet_holds() {
+        check(&[], 0, |_| ());
+        check(&Call::ALL, 1, |sheet| sheet.job.vehicles = vec![[0, 0]; 17]);
+        check(&Call::ALL, 2, |sheet| sheet.job.stops = vec![0; 65]);
+        check(&Call::ALL, 3, |sheet| {
+            sheet.job.distances = vec![vec![0; 81]; 81]
+        });
+        check(&Call::ALL, 3, |sheet| {
+            sheet.job.distances[1].pop();
+        });
+        check(&[Call::Solve], 5, |sheet| sheet.job.draws.clear());
+        check(&[Call::Solve], 5, |sheet| sheet.job.draws = vec![0; 1_025]);
+    }
+}
