@@ -34,6 +34,7 @@ pub fn recorded_sheets() -> Vec<Sheet> {
 
     accepted
         .chain(recorded_refusals())
+        .chain([first_average_sheet()])
         .chain(largest_sheets())
         .collect()
 }
@@ -275,6 +276,26 @@ fn is_placed(pair: Pair, index: usize) -> bool {
         Pair::FirstUnplaced => index != 0,
         Pair::SecondUnplaced => index != 1,
         Pair::Unplaced => false,
+    }
+}
+
+/// A run of which the last of fourteen rounds settles just because the first average is not divided by c.
+fn first_average_sheet() -> Sheet {
+    Sheet {
+        call: Call::Solve,
+        given: vec![],
+        plan: vec![],
+        job: Job {
+            vehicles: vec![[0, 0], [1, 0]],
+            stops: vec![0, 1, 0, 0],
+            distances: vec![vec![1, 2], vec![1, 1]],
+            linear: 0,
+            quadratic: 1,
+            missed: 0,
+            smoothing: 3,
+            limit: 14,
+            draws: vec![0, 0, 0, 0, 0, 1],
+        },
     }
 }
 
