@@ -1,8 +1,8 @@
 //! The oracle: what the shuttle program and the single calls must print, found by the solver's Rust.
 
-mod original;
+mod record;
 
-use original::Original;
+use oracle::Original;
 use plain::Plain;
 use sheet::{answer_sheets, shuttle};
 use std::{
@@ -14,7 +14,8 @@ use std::{
 
 const USAGE: &str = "\
 usage: oracle shuttle | calls | plain-shuttle | plain-calls < INPUT
-       oracle gen SEED COUNT KIND";
+       oracle gen SEED COUNT KIND
+       oracle record DIRECTORY";
 
 fn main() -> ExitCode {
     match run(&env::args().skip(1).collect::<Vec<_>>()) {
@@ -43,6 +44,9 @@ fn run(arguments: &[String]) -> Result<(), Box<dyn Error>> {
             for text in generate::texts(seed.parse()?, count.parse()?, kind.parse()?) {
                 output.write_all(&text)?
             }
+        }
+        ["record", directory] => {
+            output.write_all(record::record::<Original>(directory.as_ref())?.as_bytes())?
         }
         _ => return Err(USAGE.into()),
     }

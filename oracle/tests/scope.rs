@@ -1,8 +1,9 @@
 //! Examples of the scope, by the solver's Rust and by the plain rewrite.
 
 use std::{
+    env, fs,
     io::Write,
-    process::{Command, Stdio},
+    process::{self, Command, Stdio},
 };
 
 const UNUSED: u64 = u32::MAX as u64;
@@ -256,4 +257,22 @@ fn refuses_and_goes_on_up_to_a_sheet_out_of_form() {
     check("shuttle", "", &columns(&[14], 20));
     check("shuttle", &(good.clone() + "\n"), &columns(&[14], 20));
     check("shuttle", &job_a(1, 17, 0), &columns(&[8], 20));
+}
+
+#[test]
+fn records_what_the_plain_rewrite_prints() {
+    let directory = env::temp_dir().join(format!("recorded-{}", process::id()));
+    let table = Command::new(env!("CARGO_BIN_EXE_oracle"))
+        .arg("record")
+        .arg(&directory)
+        .output()
+        .unwrap()
+        .stdout;
+    let [input, output] =
+        ["stdin", "stdout"].map(|name| fs::read_to_string(directory.join(name)).unwrap());
+
+    fs::remove_dir_all(&directory).unwrap();
+    assert!(table.starts_with(b"| sheets | weigh |"));
+    assert!(output.ends_with(&columns(&[14], 20)));
+    assert_eq!(print("plain-calls", &input), output);
 }

@@ -2,7 +2,7 @@ use crate::Random;
 use sheet::Job;
 
 const MAX_DISTANCE: u32 = 200_000;
-const MAX_MISSED_PRICE: u64 = 10_000_000_000_000;
+pub const MAX_MISSED_PRICE: u64 = 10_000_000_000_000;
 
 /// Limits on the numbers of vehicles, stops and locations.
 #[derive(Clone, Copy)]
@@ -18,7 +18,7 @@ impl Sizes {
     pub const MEDIUM: Self = Self::new(6, 20, 30);
     pub const LARGE: Self = Self::new(16, 64, 80);
 
-    const fn new(vehicles: u64, stops: u64, locations: u64) -> Self {
+    pub const fn new(vehicles: u64, stops: u64, locations: u64) -> Self {
         Self {
             vehicles,
             stops,
@@ -76,12 +76,19 @@ pub fn small_job(random: &mut Random) -> Job {
 
 /// A job with every list at its limit, which does not settle soon.
 pub fn largest_job(random: &mut Random) -> Job {
+    long_job(random, Sizes::LARGE)
+}
+
+/// A job of these sizes that places all stops and does not settle soon.
+pub fn long_job(random: &mut Random, sizes: Sizes) -> Job {
+    let last = sizes.locations as u32 - 1;
+
     Job {
-        vehicles: (0..16)
-            .map(|_| [0; 2].map(|_| random.small(0..=79)))
+        vehicles: (0..sizes.vehicles)
+            .map(|_| [0; 2].map(|_| random.small(0..=last)))
             .collect(),
-        stops: (0..64).map(|_| random.small(0..=79)).collect(),
-        distances: plane(random, 80, MAX_DISTANCE),
+        stops: (0..sizes.stops).map(|_| random.small(0..=last)).collect(),
+        distances: plane(random, sizes.locations as usize, MAX_DISTANCE),
         linear: 1_000_000,
         quadratic: random.choose(&[0, 16]),
         missed: MAX_MISSED_PRICE,
@@ -149,18 +156,39 @@ pub fn job(random: &mut Random, sizes: Sizes) -> Job {
     job
 }
 
-fn distances(random: &mut Random, count: usize) -> Vec<Vec<u32>> {
-    match random.below(10) {
-        0 => vec![vec![0; count]; count],
-        1 => vec![vec![random.choose(&[1, MAX_DISTANCE]); count]; count],
-        2..=4 => {
-            let max = random.choose(&[1, 2, 5, 20]);
+/// A way to fill a table, with the largest distance.
+#[derive(Clone, Copy)]
+pub enum Table {
+    Zero,
+    Constant(u32),
+    Uniform(u32),
+    Plane(u32),
+    /// Distances in a plane, some of them shortened.
+    Bent(u32),
+}
 
-            uniform(random, count, max)
-        }
-        5 | 6 => uniform(random, count, MAX_DISTANCE),
-        7 => {
-            let mut distances = plane(random, count, MAX_DISTANCE);
+fn distances(random: &mut Random, count: usize) -> Vec<Vec<u32>> {
+    let kind = match random.below(10) {
+        0 => Table::Zero,
+        1 => Table::Constant(random.choose(&[1, MAX_DISTANCE])),
+        2..=4 => Table::Uniform(random.choose(&[1, 2, 5, 20])),
+        5 | 6 => Table::Uniform(MAX_DISTANCE),
+        7 => Table::Bent(MAX_DISTANCE),
+        8 => Table::Plane(30),
+        _ => Table::Plane(MAX_DISTANCE),
+    };
+
+    table(random, count, kind)
+}
+
+pub fn table(random: &mut Random, count: usize, kind: Table) -> Vec<Vec<u32>> {
+    match kind {
+        Table::Zero => vec![vec![0; count]; count],
+        Table::Constant(distance) => vec![vec![distance; count]; count],
+        Table::Uniform(max) => uniform(random, count, max),
+        Table::Plane(max) => plane(random, count, max),
+        Table::Bent(max) => {
+            let mut distances = plane(random, count, max);
 
             for distance in distances.iter_mut().flatten() {
                 *distance -= random.small(0..=*distance / 4);
@@ -168,8 +196,6 @@ fn distances(random: &mut Random, count: usize) -> Vec<Vec<u32>> {
 
             distances
         }
-        8 => plane(random, count, 30),
-        _ => plane(random, count, MAX_DISTANCE),
     }
 }
 
@@ -197,17 +223,23 @@ fn plane(random: &mut Random, count: usize, max: u32) -> Vec<Vec<u32>> {
         .collect()
 }
 
+/// A missed price at which a run places every stop.
+pub fn sufficient(job: &Job) -> u64 {
+    let longest = job.distances.iter().flatten().copied().max().unwrap_or(0) as u64;
+    let quadratic = job.quadratic as u64;
+
+    2 * longest * job.linear as u64
+        + 4 * (job.stops.len() as u64 + 1) * longest * longest * quadratic
+}
+
 fn missed(random: &mut Random, job: &Job) -> u64 {
     let longest = job.distances.iter().flatten().copied().max().unwrap_or(0) as u64;
-    let linear = job.linear as u64;
-    let quadratic = job.quadratic as u64;
-    let sufficient =
-        2 * longest * linear + 4 * (job.stops.len() as u64 + 1) * longest * longest * quadratic;
+    let sufficient = sufficient(job);
 
     match random.below(8) {
         0 => 0,
         1 => random.within(0..=5),
-        2 => random.within(0..=longest * linear),
+        2 => random.within(0..=longest * job.linear as u64),
         3 => random.within(0..=sufficient),
         4 => MAX_MISSED_PRICE,
         5 => sufficient.saturating_sub(1),

@@ -3,10 +3,16 @@
 mod damage;
 mod job;
 mod random;
+mod recorded;
+mod recorded_refusals;
 mod refused;
 mod sheet;
 
-pub use crate::random::Random;
+pub use crate::{
+    job::{long_job, sufficient, Sizes},
+    random::Random,
+    recorded::recorded_sheets,
+};
 
 use ::sheet::{write_job, write_sheet, Call};
 use std::{fmt, str::FromStr};
@@ -20,7 +26,7 @@ pub enum Kind {
     Calls,
     /// Sheets with refused arguments.
     Refused,
-    /// Sheets of all calls, each with its bytes damaged.
+    /// A sheet with its bytes damaged, with none to two others before it and one or none after it.
     DamagedCalls,
     /// Job files for the shuttle program.
     Jobs,
@@ -100,9 +106,20 @@ pub fn text(seed: u64, index: u64, kind: Kind) -> Vec<u8> {
         Kind::Calls => write_sheet(&sheet::any_sheet(random)).into_bytes(),
         Kind::Refused => write_sheet(&refused::refused_sheet(random)).into_bytes(),
         Kind::DamagedCalls => {
+            let mut sheets = |count| {
+                (0..random.below(count))
+                    .map(|_| write_sheet(&sheet::small_sheet(random)))
+                    .collect::<String>()
+            };
+            let (before, after) = (sheets(3), sheets(2));
             let text = write_sheet(&sheet::small_sheet(random));
 
-            damage::damage(random, text)
+            [
+                before.into_bytes(),
+                damage::damage(random, text),
+                after.into_bytes(),
+            ]
+            .concat()
         }
         Kind::Jobs => write_job(&job::run_job(random)).into_bytes(),
         Kind::DamagedJobs => {

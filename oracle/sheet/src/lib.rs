@@ -9,10 +9,10 @@ mod write;
 
 pub use job::{Call, Job, Sheet};
 pub use plan::{decode, encode, Routes, UNUSED};
-pub use print::{answer_sheets, shuttle};
+pub use print::{answer_sheets, answer_sheets_by, costs, run_line, shuttle};
 pub use read::{read_job, read_sheet, Malformed};
 pub use refuse::refusal;
-pub use write::{write_job, write_sheet};
+pub use write::{numbers, write_job, write_sheet};
 
 /// What a run answers besides its plan.
 #[derive(Clone, Copy, Debug, Eq, PartialEq)]

@@ -35,11 +35,20 @@ pub fn shuttle<P: Planner>(input: &[u8]) -> String {
 }
 
 /// Prints the answers of call sheets one after another, up to the end of the input or the first that is no sheet.
-pub fn answer_sheets<P: Planner>(mut input: &[u8], mut output: impl Write) -> io::Result<()> {
+pub fn answer_sheets<P: Planner>(input: &[u8], output: impl Write) -> io::Result<()> {
+    answer_sheets_by(answer::<P>, input, output)
+}
+
+/// The same with other answers.
+pub fn answer_sheets_by(
+    answer: fn(&Sheet) -> String,
+    mut input: &[u8],
+    mut output: impl Write,
+) -> io::Result<()> {
     while !input.is_empty() {
         match read_sheet(input) {
             Ok((sheet, rest)) => {
-                output.write_all(answer::<P>(&sheet).as_bytes())?;
+                output.write_all(answer(&sheet).as_bytes())?;
                 input = rest;
             }
             Err(Malformed) => {
@@ -82,7 +91,7 @@ fn answer<P: Planner>(sheet: &Sheet) -> String {
     }
 }
 
-fn run_line(run: Run) -> String {
+pub fn run_line(run: Run) -> String {
     costs([
         run.start_cost,
         run.end_cost,
@@ -93,7 +102,7 @@ fn run_line(run: Run) -> String {
 }
 
 /// A line of numbers in 20 columns each.
-fn costs(numbers: impl IntoIterator<Item = u64>) -> String {
+pub fn costs(numbers: impl IntoIterator<Item = u64>) -> String {
     let mut line = numbers
         .into_iter()
         .map(|number| format!("{number:20}"))

@@ -1,0 +1,99 @@
+//! The answers of call sheets by the static library, its refusals among them.
+
+use crate::proved::{self, Answer};
+use sheet::{costs, numbers, run_line, Call, Sheet};
+
+pub fn answer(sheet: &Sheet) -> String {
+    let mut plan = if sheet.call.has_plan() {
+        sheet.plan.clone()
+    } else {
+        proved::unused(&sheet.job)
+    };
+    let before = plan.clone();
+    let answer = call(sheet, &mut plan);
+    let plan_line = match sheet.call {
+        Call::Weigh => String::new(),
+        _ => numbers(&plan),
+    };
+
+    match answer {
+        Ok(line) => line + &plan_line,
+        Err(number) => {
+            assert_eq!(plan, before, "a refused call's plan");
+            costs([number as u64])
+        }
+    }
+}
+
+/// Makes the call, and answers the line of its cost or its run.
+fn call(sheet: &Sheet, plan: &mut [u32]) -> Answer<String> {
+    let job = &sheet.job;
+    let line = |cost: f64| costs([cost as u64]);
+
+    match sheet.call {
+        Call::Weigh => proved::weigh(job, plan).map(line),
+        Call::StartPlan => proved::start_plan(job, plan).map(|()| String::new()),
+        Call::TwoOpt => proved::two_opt(job, plan, [sheet.given[0], sheet.given[1]]).map(line),
+        Call::Rebuild => proved::rebuild(job, plan, &sheet.given).map(line),
+        Call::Exhaustive => proved::exhaustive(job, plan).map(line),
+        Call::Pruned => proved::pruned(job, plan).map(line),
+        Call::Solve => proved::solve(job, plan).map(run_line),
+    }
+}
+
+#[cfg(test)]
+mod tests {
+    use super::*;
+    use sheet::Job;
+
+    fn sheet(call: Call) -> Sheet {
+        Sheet {
+            call,
+            given: vec![0, 1],
+            plan: vec![2, 0, 1],
+            job: Job {
+                vehicles: vec![[0, 0]],
+                stops: vec![1, 2],
+                distances: vec![vec![0, 2, 3], vec![2, 0, 9], vec![9, 1, 0]],
+                linear: 1,
+                quadratic: 0,
+                missed: 100,
+                smoothing: 1,
+                limit: 50,
+                draws: vec![0],
+            },
+        }
+    }
+
+    /// Checks the number that each of the calls refuses a changed sheet with; the others accept it.
+    fn check(calls: &[Call], number: u32, change: impl Fn(&mut Sheet)) {
+        for call in Call::ALL {
+            let mut sheet = sheet(call);
+
+            change(&mut sheet);
+
+            let mut plan = sheet.plan.clone();
+
+            assert_eq!(
+                super::call(&sheet, &mut plan).err(),
+                calls.contains(&call).then_some(number),
+                "{call:?}"
+            );
+        }
+    }
+
+    #[test]
+    fn refuses_lists_that_no_sheet_holds() {
+        check(&[], 0, |_| ());
+        check(&Call::ALL, 1, |sheet| sheet.job.vehicles = vec![[0, 0]; 17]);
+        check(&Call::ALL, 2, |sheet| sheet.job.stops = vec![0; 65]);
+        check(&Call::ALL, 3, |sheet| {
+            sheet.job.distances = vec![vec![0; 81]; 81]
+        });
+        check(&Call::ALL, 3, |sheet| {
+            sheet.job.distances[1].pop();
+        });
+        check(&[Call::Solve], 5, |sheet| sheet.job.draws.clear());
+        check(&[Call::Solve], 5, |sheet| sheet.job.draws = vec![0; 1_025]);
+    }
+}
