@@ -197,7 +197,7 @@ fn visit(
     requires { ⌜ (length (now gaps) ≡ 12) × (length (now codes) ≡ 7) × (length (now scratch) ≡ v + n) × (length (now best) ≡ v + n) ⌝ }
     ensures { λ r. ⌜ Arranged (now (legs .entry)) v n prices (now (plan .entry)) (now (regions .entry)) (now (best .exit)) r ⌝ }
 {
-    joining::copy_plan(plan, best);
+    pasting::copy_plan(plan, best);
     let all = stop_set::size(solution::placed_set(plan, v, n));
     let cost = delivery::cost(legs, v, n, prices, plan);
     if regions.len() == 0 {

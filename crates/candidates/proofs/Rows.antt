@@ -9,7 +9,7 @@ use Rattle.model.specs.Plan.{Route}
 use Rattle.model.proofs.Counts.{count-reverse}
 use Rattle.distance.specs.Ways.{Drivable}
 use Rattle.rows.specs.Rows.{Summed}
-use Rattle.joining.specs.Put.{put}
+use Rattle.pasting.specs.Put.{put}
 
 -- the first m of a row are xs
 pub record Front (row : List ℕ) (m : ℕ) (xs : List ℕ) : Type 0 where

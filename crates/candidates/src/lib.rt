@@ -11,7 +11,7 @@ ghost use Rattle.model.specs.Lists.{upFrom};
 ghost use Rattle.model.specs.Legs.{LegTable};
 ghost use Rattle.distance.specs.Ways.{Drivable};
 ghost use Rattle.rows.specs.Rows.{Summed};
-ghost use Rattle.joining.specs.Put.{put};
+ghost use Rattle.pasting.specs.Put.{put};
 ghost use Rattle.candidates.specs.Pairs.{choiceOf, rowsPrice, least, leastPair};
 ghost use Rattle.candidates.specs.Weighed.{Weighs, found, Rows, Routes, Turned};
 use model::Prices;
@@ -145,7 +145,7 @@ fn turn(legs: &[u32], route: &[u32], row: &mut [u32], sums: &mut [u32])
     ensures { λ _. ⌜ now (row .exit) ≡ put (now (row .entry)) 0 (reverse (now (route .entry))) ⌝ }
     ensures { λ _. ⌜ Summed (now (legs .entry)) (reverse (now (route .entry))) (now (sums .exit)) ⌝ }
 {
-    let end = joining::paste_reversed(row, 0, route);
+    let end = pasting::paste_reversed(row, 0, route);
     rows::sum_legs(legs, &row[..end], sums);
 }
 

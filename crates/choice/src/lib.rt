@@ -103,7 +103,7 @@ fn contest(
     let count = score.count + 1;
     words::compose(plan, v, n, regions, word, other);
     if ahead(cost, stops, other, best, score) {
-        joining::copy_plan(other, best);
+        pasting::copy_plan(other, best);
         return Score {
             cost,
             placed: stops,

@@ -10,7 +10,7 @@ use Rattle.model.specs.Lists.{upFrom}
 use Rattle.model.specs.Plan.{encode, unused}
 use Rattle.model.proofs.Lists.{length-upFrom}
 use Rattle.model.proofs.Counts.{concat-empty}
-use Rattle.joining.specs.Put.{put}
+use Rattle.pasting.specs.Put.{put}
 use Rattle.exact.specs.Full.{fullPlan}
 
 -- the first of the numbers from a on

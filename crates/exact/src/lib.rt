@@ -22,7 +22,7 @@ fn full(plan: &mut [u32], v: usize, n: usize)
         return;
     }
     plan[0] = n as u32;
-    joining::paste(plan, v, &stops[..n]);
+    pasting::paste(plan, v, &stops[..n]);
 }
 
 // Writes the plan that the exhaustive solver chooses, and returns its cost.

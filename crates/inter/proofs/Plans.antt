@@ -16,7 +16,7 @@ use Rattle.model.proofs.Lists.{member-count, count-member, position-lt}
 use Rattle.model.proofs.Counts.{placed-routes, once-route}
 use Rattle.model.proofs.PlanForm.{lent-length, lent-placed, lent-moved}
 use Rattle.model.proofs.Moves.{count-turned}
-use Rattle.joining.specs.Put.{put}
+use Rattle.pasting.specs.Put.{put}
 use Rattle.delivery.specs.Costs.{Ready}
 use Rattle.delivery.proofs.Laws.{lent-drivable}
 use Rattle.candidates.specs.Pairs.{choiceOf, chosen, pairOf, planAt, leastPair}

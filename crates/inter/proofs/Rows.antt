@@ -9,7 +9,7 @@ use Rattle.model.specs.Plan.{Route}
 use Rattle.model.specs.TwoOpt.{turned}
 use Rattle.model.proofs.Lists.{part-end}
 use Rattle.rows.specs.Rows.{joinedRoute}
-use Rattle.joining.specs.Put.{put}
+use Rattle.pasting.specs.Put.{put}
 
 -- what is known of a test that led there, and of what was written
 pub written-turned : (row after : List ℕ) (r : Route) {t u : Bool} → t ≡ u → after ≡ put row 0 (turned u r) → after ≡ put row 0 (turned t r)

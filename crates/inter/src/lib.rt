@@ -9,7 +9,7 @@ ghost use Rattle.model.specs.Legs.{Fits};
 ghost use Rattle.model.specs.TwoOpt.{turned, setRoute, inter};
 ghost use Rattle.rows.specs.Rows.{joinedRoute};
 ghost use Rattle.delivery.specs.Costs.{Ready};
-ghost use Rattle.joining.specs.Put.{put};
+ghost use Rattle.pasting.specs.Put.{put};
 ghost use Rattle.candidates.specs.Pairs.{pairOf, planAt, leastPair};
 ghost use Rattle.inter.specs.Move.{OnTwoRoutes, TwoRoutes, Pair, NewRows};
 use candidates::Best;
@@ -42,10 +42,10 @@ fn write_turned(reversed: bool, route: &[u32], row: &mut [u32])
     ensures { λ _. ⌜ now (row .exit) ≡ put (now (row .entry)) 0 (turned reversed (now (route .entry))) ⌝ }
 {
     if reversed {
-        joining::paste_reversed(row, 0, route);
+        pasting::paste_reversed(row, 0, route);
         return;
     }
-    joining::paste(row, 0, route);
+    pasting::paste(row, 0, route);
 }
 
 // Writes the head of one row, up to a cut, and the tail of another from a cut on, which is handed on as a part of that row.
@@ -54,7 +54,7 @@ fn write_ends(row: &mut [u32], head: &[u32], upto: usize, tail: &[u32], from: us
     ensures { λ r. ⌜ r ≡ length (take upto (now (head .entry)) ++ drop from (now (tail .entry))) ⌝ }
     ensures { λ _. ⌜ now (row .exit) ≡ put (now (row .entry)) 0 (take upto (now (head .entry)) ++ drop from (now (tail .entry))) ⌝ }
 {
-    joining::join(row, 0, &head[..upto], &tail[from..])
+    pasting::join(row, 0, &head[..upto], &tail[from..])
 }
 
 // The same for a head and a tail that are each of the route's own row or of the other one.
@@ -159,6 +159,6 @@ pub fn inter(
         return;
     }
     let mut old = [0u32; 80];
-    let m = joining::paste(&mut old, 0, plan);
+    let m = pasting::paste(&mut old, 0, plan);
     write_candidate(&old[..m], plan, v, n, a, s, b, t, code);
 }

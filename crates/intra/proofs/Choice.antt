@@ -25,8 +25,8 @@ use Rattle.whole.proofs.Laws.{lt-whole}
 use Rattle.distance.specs.Ways.{RouteLength}
 use Rattle.distance.proofs.Laws.{way-route}
 use Rattle.delivery.proofs.Laws.{price-small}
-use Rattle.joining.specs.Put.{put}
-use Rattle.joining.proofs.Put.{put-all}
+use Rattle.pasting.specs.Put.{put}
+use Rattle.pasting.proofs.Put.{put-all}
 use Rattle.delivery.specs.Costs.{Ready}
 use Rattle.intra.specs.Reordered.{tablePrice, cheaper, reordered, Weighable, Weighs}
 

@@ -10,7 +10,7 @@ use Rattle.model.specs.Plan.{Route, routeOf, encode, decode, unused, Lent}
 use Rattle.model.specs.TwoOpt.{setRoute}
 use Rattle.model.proofs.Lists.{sum-more, sum-upto, change-none, length-part}
 use Rattle.model.proofs.PlanForm.{route-length}
-use Rattle.joining.specs.Put.{put}
+use Rattle.pasting.specs.Put.{put}
 use Rattle.joining.proofs.Routes.{encode-one}
 
 -- what stands between h and z, replaced by as many numbers

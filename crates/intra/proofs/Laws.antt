@@ -7,9 +7,9 @@ use native.Mathlib.Omega.{arith}
 use lib.ListN.{length, take, drop, length-append, length-reverse}
 use Rattle.model.specs.Lists.{part}
 use Rattle.model.specs.TwoOpt.{endsExchanged, inverted}
-use Rattle.joining.specs.Put.{put}
+use Rattle.pasting.specs.Put.{put}
 use Rattle.model.proofs.Lists.{part-end}
-use Rattle.joining.proofs.Put.{put-put}
+use Rattle.pasting.proofs.Put.{put-put}
 
 -- three lists written one after another
 three : (d d₁ d₂ d₃ x y z : List ℕ) (a b : ℕ) → a ≡ 0 + length x → d₁ ≡ put d 0 x → b ≡ a + length y → d₂ ≡ put d₁ a y → d₃ ≡ put d₂ b z → d₃ ≡ put d 0 (x ++ (y ++ z))

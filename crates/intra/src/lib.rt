@@ -6,7 +6,7 @@ ghost use Rattle.model.specs.Job.{Job};
 ghost use Rattle.model.specs.Plan.{encode, decode, Lent};
 ghost use Rattle.model.specs.Legs.{Fits};
 ghost use Rattle.model.specs.TwoOpt.{endsExchanged, inverted, intra};
-ghost use Rattle.joining.specs.Put.{put};
+ghost use Rattle.pasting.specs.Put.{put};
 ghost use Rattle.delivery.specs.Costs.{Ready};
 ghost use Rattle.intra.specs.Reordered.{reordered, Weighable, Weighs, OneRoute};
 use model::Prices;
@@ -16,9 +16,9 @@ pub fn ends_exchanged(route: &[u32], i: usize, j: usize, out: &mut [u32])
     requires { ⌜ (i < j) × (j < length (now route)) × (length (now route) ≤ length (now out)) ⌝ }
     ensures { λ _. ⌜ now (out .exit) ≡ put (now (out .entry)) 0 (endsExchanged i j (now (route .entry))) ⌝ }
 {
-    let a = joining::paste_reversed(out, 0, &route[j..]);
-    let b = joining::paste(out, a, &route[i + 1..j]);
-    joining::paste_reversed(out, b, &route[0..i + 1]);
+    let a = pasting::paste_reversed(out, 0, &route[j..]);
+    let b = pasting::paste(out, a, &route[i + 1..j]);
+    pasting::paste_reversed(out, b, &route[0..i + 1]);
 }
 
 // Writes the inversion of Croes 1958, r[..i+1], r[i+1..j] reversed, r[j..], to the front of `out`.
@@ -26,9 +26,9 @@ pub fn inverted(route: &[u32], i: usize, j: usize, out: &mut [u32])
     requires { ⌜ (i < j) × (j < length (now route)) × (length (now route) ≤ length (now out)) ⌝ }
     ensures { λ _. ⌜ now (out .exit) ≡ put (now (out .entry)) 0 (inverted i j (now (route .entry))) ⌝ }
 {
-    let a = joining::paste(out, 0, &route[0..i + 1]);
-    let b = joining::paste_reversed(out, a, &route[i + 1..j]);
-    joining::paste(out, b, &route[j..]);
+    let a = pasting::paste(out, 0, &route[0..i + 1]);
+    let b = pasting::paste_reversed(out, a, &route[i + 1..j]);
+    pasting::paste(out, b, &route[j..]);
 }
 
 // What a route costs on a vehicle.
@@ -58,13 +58,13 @@ fn reorder(legs: &[u32], prices: Prices, vehicle: usize, route: &mut [u32], i: u
         if old < b {
             return;
         }
-        joining::paste(route, 0, &second[0..m]);
+        pasting::paste(route, 0, &second[0..m]);
         return;
     }
     if old < a {
         return;
     }
-    joining::paste(route, 0, &first[0..m]);
+    pasting::paste(route, 0, &first[0..m]);
 }
 
 // The pair s, t on route k: least cost of the two new routes and the old one, on ties the earliest.

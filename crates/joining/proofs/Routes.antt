@@ -10,9 +10,9 @@ use Rattle.model.specs.Lists.{sum, concat, part}
 use Rattle.model.specs.Plan.{Plan, Route, encode, cut, decode, placed, Lent}
 use Rattle.model.specs.TwoOpt.{setRoute}
 use Rattle.model.proofs.Counts.{placed-change, placed-routes}
-use Rattle.joining.proofs.Put.{lent-rest, area-front}
+use Rattle.pasting.proofs.Put.{lent-rest, area-front}
 use Rattle.model.proofs.Lists.{sum-more, sum-upto, sum-append, take-part, part-end, length-part, concat-append, change-to, map-change}
-use Rattle.joining.specs.Put.{put, areaOf}
+use Rattle.pasting.specs.Put.{put, areaOf}
 use Rattle.model.proofs.PlanForm.{concat-cut, lengths-cut, lent-length, placed-decode, route-length}
 
 -- ---- some of the routes
@@ -131,33 +131,6 @@ module _ (v n : ℕ) (xs : List ℕ) (p : Lent v n xs) where
         → encode n (setRoute k r (decode v xs)) ≡ set (take v xs) k (length r) ++ areaOf n ((part v start xs ++ r) ++ part end used xs)
     unfolding encode
     encode-one start end used es ee eu = rw (stops-one start end used es ee eu, lengths-set k r (decode v xs), lengths-decode)
-
-    pub form-one : (d d₁ y : List ℕ) → length d ≡ v + n → d₁ ≡ put d 0 (take v xs) → y ≡ areaOf n (concat (setRoute k r (decode v xs)))
-        → let d₂ = set d₁ k (length r) in take v d₂ ++ (y ++ drop (length d₂ - v) (drop v d₂)) ≡ encode n (setRoute k r (decode v xs))
-    form-one d d₁ y hd e ey =
-        lent-form (setRoute k r (decode v xs)) (set d₁ k (length r)) y
-        (rw (take-set-lt v d₁ k (length r) h, copied d d₁ hd e, lengths-set k r (decode v xs), lengths-decode)) ey
-
-    -- route k ends within the used places, and with the new one in its place all stops fit
-    pub record Room : Type 0 where
-      pub ends : sum (take k xs) + getD xs k 0 ≤ sum (take v xs)
-      pub fits : sum (take v xs) + length r ≤ n + getD xs k 0
-
-    pub room : placed (setRoute k r (decode v xs)) ≤ n → Room
-    room f = record {
-      ends = sum-upto xs k v h;
-      fits = omega (arith, placed-change k (λ _. r) (decode v xs) in-routes, route-length v n xs (p .long) (p .fits) k h, placed-decode v n xs (p .long) (p .fits));
-    }
-
-    -- so the pieces fit the stops area
-    pub enough : (start end used : ℕ) → Room → start ≡ v + sum (take k xs) → end ≡ start + getD xs k 0 → used ≡ v + sum (take v xs)
-        → length (part v start xs) + length r + length (part end used xs) ≤ n
-    enough start end used room es ee eu =
-        let l = p .long in
-        let f = p .fits in
-        let l₁ : length (part v start xs) ≡ start - v = length-part v start xs (omega arith) in
-        let l₂ : length (part end used xs) ≡ used - end = length-part end used xs (omega arith) in
-        rw (l₁, l₂) (omega arith)
 
   -- ---- two routes replaced
 

@@ -6,7 +6,7 @@ use mathlib.Core.Path.{_≡_, refl, ap}
 use mathlib.Core.List.{List, [], _++_, map}
 use lib.ListN.{length, take, drop, replicate, length-append, length-replicate, length-drop}
 use lib.Seq.{take-at, length-take-le}
-use Rattle.joining.proofs.Put.{lent-rest}
+use Rattle.pasting.proofs.Put.{lent-rest}
 use Rattle.model.proofs.Lists.{part-end}
 use Rattle.model.proofs.Counts.{concat-empty}
 use Rattle.model.specs.Plan.{Route, encode, unused}

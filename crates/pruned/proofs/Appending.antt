@@ -12,7 +12,7 @@ use Rattle.model.specs.Plan.{Plan, routeOf, placed, encode, decode, unused, Len
 use Rattle.model.proofs.Lists.{change-set, map-change, concat-append, length-part, sum-more}
 use Rattle.model.proofs.Counts.{placed-change}
 use Rattle.model.proofs.PlanForm.{encode-sum, lent-length}
-use Rattle.joining.specs.Put.{put}
+use Rattle.pasting.specs.Put.{put}
 use Rattle.pruned.specs.Search.{withLast}
 
 nothing : (l : List ℕ) (i : ℕ) → length l ≤ i → drop i l ≡ []

@@ -37,7 +37,7 @@ fn consider(plan: &[u32], cost: f64, best: &mut [u32], least: f64, v: usize, n: 
     ensures { λ r. ⌜ Kept v n (now (plan .entry)) cost (now (best .entry)) least (now (best .exit)) r ⌝ }
 {
     if prefers(plan, cost, best, least, v, n) {
-        joining::copy_plan(plan, best);
+        pasting::copy_plan(plan, best);
         return cost;
     }
     least
@@ -51,8 +51,8 @@ fn append(plan: &[u32], v: usize, n: usize, k: usize, stop: u32, next: &mut [u32
 {
     let end = solution::offset(plan, v, k + 1);
     let last = v + n - 1;
-    joining::paste(next, 0, &plan[..end]);
-    joining::paste(next, end + 1, &plan[end..last]);
+    pasting::paste(next, 0, &plan[..end]);
+    pasting::paste(next, end + 1, &plan[end..last]);
     next[k] = plan[k] + 1;
     next[end] = stop;
 }
@@ -104,7 +104,7 @@ pub fn pruned(legs: &[u32], v: usize, n: usize, prices: Prices, plan: &mut [u32]
     let least = delivery::cost(legs, v, n, prices, plan);
     let m = v + n;
     let mut start = [0u32; 9];
-    joining::copy_plan(plan, &mut start[..m]);
+    pasting::copy_plan(plan, &mut start[..m]);
     let left = stop_set::below(n as u32);
     // No routes cost as much, so the empty plan is below this bound.
     let unbounded = whole::of_u64(9007199254740992);

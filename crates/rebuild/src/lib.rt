@@ -22,7 +22,7 @@ pub fn rearrange(
     let m = v + n;
     let mut best = [0u32; 80];
     let score = arrange::arrange(legs, v, n, prices, plan, regions, &mut best[..m]);
-    joining::copy_plan(&best[..m], plan);
+    pasting::copy_plan(&best[..m], plan);
     score
 }
 

@@ -23,7 +23,7 @@ pub fn sum_lengths(plan: &[u32], v: usize) -> usize
 }
 
 // Whether 4294967295 stands in every place.
-pub fn all_unused(part: &[u32]) -> bool
+fn all_unused(part: &[u32]) -> bool
     ensures { λ r. ⌜ r ≡ same (now (part .entry)) (replicate (length (now (part .entry))) unused) ⌝ }
 {
     let mut i = 0;
@@ -114,7 +114,7 @@ pub fn route<'a>(plan: &'a [u32], v: usize, n: usize, k: usize) -> &'a [u32]
 }
 
 // The set of the stops of a list in which none stands twice.
-pub fn set_of(part: &[u32]) -> u64
+fn set_of(part: &[u32]) -> u64
     requires { ⌜ ((s : ℕ) → 1 ≤ count s (now part) → s < 64) × Once (now part) ⌝ }
     ensures { λ r. ⌜ SetOf (now (part .entry)) r ⌝ }
 {

@@ -11,8 +11,8 @@ use Rattle.model.specs.Plan.{Plan, Route, routeOf, placed, unused, encode, deco
 use Rattle.model.proofs.Lists.{map-append, concat-append, sum-more, position-le}
 use Rattle.model.proofs.PlanForm.{route-part, route-end, lent-length}
 use Rattle.model.proofs.Arrangements.{vehiclesOf}
-use Rattle.joining.specs.Put.{put}
-use Rattle.joining.proofs.Put.{take-put, length-put, lent-rest}
+use Rattle.pasting.specs.Put.{put}
+use Rattle.pasting.proofs.Put.{take-put, length-put, lent-rest}
 use Rattle.words.specs.Words.{Word, planOf}
 use Rattle.words.specs.Gaps.{regionsOf, regionAt, Gapped, Within, refilled}
 use Rattle.words.proofs.Plans.{length-planOf}

@@ -16,8 +16,8 @@ use Rattle.model.proofs.Lists.{position-lt, position-member, getD-position, cou
 use Rattle.model.proofs.Members.{In, in-count}
 use Rattle.model.proofs.Regions.{Stretch, Stretches}
 use Rattle.model.proofs.Arrangements.{vehiclesOf, spliced}
-use Rattle.joining.specs.Put.{put}
-use Rattle.joining.proofs.Put.{put-head, put-put}
+use Rattle.pasting.specs.Put.{put}
+use Rattle.pasting.proofs.Put.{put-head, put-put}
 use Rattle.words.specs.Words.{Word, inGap, planOf}
 use Rattle.words.specs.Gaps.{regionsOf, regionAt, refilled, Within, Pasted}
 use Rattle.words.proofs.Plans.{in-getD, in-append, route-planOf, other-planOf}

@@ -8,7 +8,7 @@ use lib.ListN.{length, getD, take, drop}
 use Rattle.model.specs.Plan.{Route, decode, Lent, Sizes}
 use Rattle.model.specs.Region.{Region}
 use Rattle.model.proofs.Regions.{Stretches}
-use Rattle.joining.specs.Put.{put}
+use Rattle.pasting.specs.Put.{put}
 use Rattle.words.specs.Words.{Word, inGap}
 
 -- vehicle, from, to

@@ -58,11 +58,11 @@ fn paste_route(
     if 3 * r < regions.len() {
         let from = regions[3 * r + 1] as usize;
         let past = regions[3 * r + 2] as usize;
-        let a = joining::paste(to, at, &route[..from]);
+        let a = pasting::paste(to, at, &route[..from]);
         let b = paste_gap(to, a, word, r as u32);
-        return joining::paste(to, b, &route[past..]);
+        return pasting::paste(to, b, &route[past..]);
     }
-    joining::paste(to, at, route)
+    pasting::paste(to, at, route)
 }
 
 // Writes the plan that a word stands for: the given plan with what the word places in the regions in their place.
@@ -83,5 +83,5 @@ pub fn compose(plan: &[u32], v: usize, n: usize, regions: &[u32], word: &[u32], 
         at = next;
         i += 1;
     }
-    joining::fill(&mut to[at..], 4294967295);
+    pasting::fill(&mut to[at..], 4294967295);
 }

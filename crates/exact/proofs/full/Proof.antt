@@ -7,7 +7,7 @@ use mathlib.Core.List.{List}
 use lib.ListN.{length, take, set, length-set}
 use Rattle.model.specs.Lists.{upFrom}
 use Rattle.model.proofs.Lists.{length-upFrom}
-use Rattle.joining.specs.Put.{put}
+use Rattle.pasting.specs.Put.{put}
 use Rattle.exact.proofs.Writing.{take-up, no-vehicle, full-form}
 use borrow.Author.Needs.{needs}
 use Rattle.exact.proofs.full.Statement.{statement}

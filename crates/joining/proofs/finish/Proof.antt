@@ -1,6 +1,6 @@
 -- `joining::finish` meets its contract. Assumes nothing.
 use native.Mathlib.Omega.{arith}
-use Rattle.joining.proofs.Put.{finished}
+use Rattle.pasting.proofs.Put.{finished}
 use Rattle.joining.proofs.finish.Statement.{statement}
 use Rattle.joining.proofs.finish.Tie as tie
 

@@ -4,7 +4,7 @@ use mathlib.Core.List.{List}
 use mathlib.Core.Path.{_≡_, sym, _∙_}
 use lib.ListN.{length, set, length-set, length-take}
 use lib.Seq.{length-take-le}
-use Rattle.joining.proofs.Put.{lent-long, rest-long}
+use Rattle.pasting.proofs.Put.{lent-long, rest-long}
 use Rattle.joining.proofs.Routes.{RoomTwo, room-two, form-two}
 use native.Mathlib.Omega.{arith}
 use Rattle.joining.proofs.replace_in_order.Statement.{statement}

@@ -1,7 +1,7 @@
 -- `joining::write_around_two` meets its contract. Assumes nothing.
 use mathlib.Core.List.{_++_}
 use lib.ListN.{length-append}
-use Rattle.joining.proofs.Put.{around-two}
+use Rattle.pasting.proofs.Put.{around-two}
 use native.Mathlib.Omega.{arith}
 use Rattle.joining.proofs.write_around_two.Statement.{statement}
 use Rattle.joining.proofs.write_around_two.Tie as tie

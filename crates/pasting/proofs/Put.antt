@@ -9,7 +9,7 @@ use lib.ListN.{length, getD, take, drop, set, replicate, length-append, length-d
 use lib.Seq.{paste, paste-suc, take-length, take-at, drop-at, drop-drop, length-take-le, drop-length, take-add}
 use Rattle.model.specs.Plan.{unused}
 use Rattle.model.proofs.Lists.{part-end}
-use Rattle.joining.specs.Put.{put, areaOf}
+use Rattle.pasting.specs.Put.{put, areaOf}
 
 -- a turn's store takes the copy of i elements of s to the copy of i + 1
 pub turn : (d dst s : List ℕ) (at i x : ℕ) → dst ≡ paste d at s i → at + i < length d → i < length s → x ≡ getD s i 0
@@ -109,13 +109,3 @@ pub around-two : (d d₁ d₂ d₃ s s′ t : List ℕ) (m m′ : ℕ) → lengt
     → d₃ ≡ areaOf (length d₂) (take m′ d₂ ++ t) → d₃ ≡ areaOf (length d) ((s ++ s′) ++ t)
 around-two d d₁ d₂ d₃ s s′ t m m′ h em em′ e₁ e₂ e₃ =
     around d d₂ d₃ (s ++ s′) t m′ (rw length-append h) (rw length-append (omega arith)) (e₂ ∙ put-on d d₁ s s′ m e₁ em) e₃
-
--- ---- two routes cut
-
-module _ (a b : List ℕ) (i j : ℕ) (h : i ≤ length a) where
-  -- the pieces' lengths
-  pub cut-length : length (take i a) + length (take (length b - j) (drop j b)) ≡ i + (length b - j)
-  cut-length = rw part-end (omega (arith, length-take-le i a h, length-drop j b))
-
-  pub cut-pieces : take i a ++ take (length b - j) (drop j b) ≡ take i a ++ drop j b
-  cut-pieces = rw part-end

@@ -1,14 +1,14 @@
--- `joining::paste_reversed` meets its contract. The invariant: to has the first i of from's elements, from the last, in their place. Assumes nothing.
+-- `pasting::paste_reversed` meets its contract. The invariant: to has the first i of from's elements, from the last, in their place. Assumes nothing.
 use Prim.Native.Nat.{_-_, _≤_}
 use mathlib.Core.Path.{_≡_, sym}
 use mathlib.Core.List.{reverse}
 use native.Mathlib.Omega.{arith}
 use lib.ListN.{length, length-set, length-reverse}
 use lib.Seq.{paste, paste-zero}
-use Rattle.joining.proofs.Put.{turn, pasted}
+use Rattle.pasting.proofs.Put.{turn, pasted}
 use Rattle.model.proofs.Lists.{getD-reverse}
-use Rattle.joining.proofs.paste_reversed.Statement.{statement}
-use Rattle.joining.proofs.paste_reversed.Tie as tie
+use Rattle.pasting.proofs.paste_reversed.Statement.{statement}
+use Rattle.pasting.proofs.paste_reversed.Tie as tie
 
 abbrev Inv-loop : tie.InvT-loop
 Inv-loop to₀ at from i₀ to i = (i ≤ length from) × (to ≡ paste to₀ at (reverse from) i) × (length to ≡ length to₀)

@@ -1,12 +1,12 @@
--- `joining::paste` meets its contract. The invariant: to has the first i of from's elements in their place. Assumes nothing.
+-- `pasting::paste` meets its contract. The invariant: to has the first i of from's elements in their place. Assumes nothing.
 use Prim.Native.Nat.{_-_, _≤_}
 use mathlib.Core.Path.{_≡_, refl}
 use native.Mathlib.Omega.{arith}
 use lib.ListN.{length, length-set}
 use lib.Seq.{paste, paste-zero}
-use Rattle.joining.proofs.Put.{turn, pasted}
-use Rattle.joining.proofs.paste.Statement.{statement}
-use Rattle.joining.proofs.paste.Tie as tie
+use Rattle.pasting.proofs.Put.{turn, pasted}
+use Rattle.pasting.proofs.paste.Statement.{statement}
+use Rattle.pasting.proofs.paste.Tie as tie
 
 abbrev Inv-loop : tie.InvT-loop
 Inv-loop to₀ at from i₀ to i = (i ≤ length from) × (to ≡ paste to₀ at from i) × (length to ≡ length to₀)

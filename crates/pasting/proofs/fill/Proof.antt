@@ -1,13 +1,13 @@
--- `joining::fill` meets its contract. The invariant: the first i places hold x. Assumes nothing.
+-- `pasting::fill` meets its contract. The invariant: the first i places hold x. Assumes nothing.
 use Prim.Native.Nat.{_-_, _≤_}
 use mathlib.Core.Path.{_≡_}
 use mathlib.Core.List.{_++_}
 use lib.ListN.{length, drop, replicate, length-set}
 use borrow.Author.Fill.{fill-none, fill-more}
 use native.Mathlib.Omega.{arith}
-use Rattle.joining.proofs.Put.{filled}
-use Rattle.joining.proofs.fill.Statement.{statement}
-use Rattle.joining.proofs.fill.Tie as tie
+use Rattle.pasting.proofs.Put.{filled}
+use Rattle.pasting.proofs.fill.Statement.{statement}
+use Rattle.pasting.proofs.fill.Tie as tie
 
 abbrev Inv-loop : tie.InvT-loop
 Inv-loop to₀ x i₀ to i = (i ≤ length to₀) × (to ≡ replicate i x ++ drop i to₀) × (length to ≡ length to₀)

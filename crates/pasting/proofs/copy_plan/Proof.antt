@@ -1,9 +1,9 @@
--- `joining::copy_plan` meets its contract. Assumes nothing.
+-- `pasting::copy_plan` meets its contract. Assumes nothing.
 use native.Mathlib.Omega.{arith}
 use mathlib.Core.Path.{_∙_}
-use Rattle.joining.proofs.Put.{put-all}
-use Rattle.joining.proofs.copy_plan.Statement.{statement}
-use Rattle.joining.proofs.copy_plan.Tie as tie
+use Rattle.pasting.proofs.Put.{put-all}
+use Rattle.pasting.proofs.copy_plan.Statement.{statement}
+use Rattle.pasting.proofs.copy_plan.Tie as tie
 
 paste-requires : tie.Need-paste-requires
 paste-requires c κs = omega arith

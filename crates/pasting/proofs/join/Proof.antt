@@ -1,8 +1,8 @@
--- `joining::join` meets its contract. Assumes nothing.
+-- `pasting::join` meets its contract. Assumes nothing.
 use native.Mathlib.Omega.{arith}
-use Rattle.joining.proofs.Put.{joined}
-use Rattle.joining.proofs.join.Statement.{statement}
-use Rattle.joining.proofs.join.Tie as tie
+use Rattle.pasting.proofs.Put.{joined}
+use Rattle.pasting.proofs.join.Statement.{statement}
+use Rattle.pasting.proofs.join.Tie as tie
 
 paste-requires : tie.Need-paste-requires
 paste-requires c κs = omega arith
