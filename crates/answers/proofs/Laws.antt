@@ -23,7 +23,8 @@ use Rattle.promise.proofs.Left.{formed-lent, start-formed, formed-exact, final-
 use Rattle.run_calls.proofs.Solving.{task-accepted}
 use Rattle.refusals.specs.Asked.{running}
 use Rattle.job_file.specs.declared.Header.{Header}
-use Rattle.job_file.specs.Reading.{headerOf, Buffers, Room, over, ReadWhole}
+use Rattle.lines.specs.Standing.{over}
+use Rattle.job_file.specs.Reading.{headerOf, Buffers, Room, ReadWhole}
 use Rattle.job_file.specs.declared.TaskRead.{TaskRead}
 use Rattle.job_file.specs.declared.TaskRead.the-variants as R
 use Rattle.columns.specs.Put.{written}

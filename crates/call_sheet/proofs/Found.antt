@@ -13,20 +13,22 @@ use Rattle.model.proofs.Tasks as tasks
 use Rattle.job_file.specs.declared.Header.{Header}
 use Rattle.job_file.specs.declared.TaskRead.{TaskRead}
 use Rattle.job_file.specs.declared.TaskRead.the-variants as T
-use Rattle.job_file.specs.Reading.{Buffers, Room, over, ReadAt}
+use Rattle.lines.specs.Standing.{over}
+use Rattle.job_file.specs.Reading.{Buffers, Room, ReadAt}
 use Rattle.answers.specs.Answers.{blank, Holds}
 use Rattle.answers.proofs.Laws.{bounds, over-front, take-replicate, prints-within}
 use Rattle.printing.specs.Printing.{Prints}
 use Rattle.sheet_lines.specs.Printed.{longestPlan, mostPrinted}
-use Rattle.call_sheet.specs.declared.Head.{Head}
-use Rattle.call_sheet.specs.declared.HeadRead.{HeadRead}
-use Rattle.call_sheet.specs.declared.HeadRead.the-variants as H
+use Rattle.sheet_head.specs.declared.Head.{Head}
+use Rattle.sheet_head.specs.declared.HeadRead.{HeadRead}
+use Rattle.sheet_head.specs.declared.HeadRead.the-variants as H
 use Rattle.call_sheet.specs.declared.SheetRead.the-variants as R
-use Rattle.call_sheet.specs.Sheets.{Sheet, hasGiven, leastGiven, mostGiven, hasPlan, headOf, sheetOf, ListFor, ReadableSheet, SheetAt, printedSheet}
-use Rattle.call_sheet.specs.Reading.{HeadOf, HeadHolds, HeadAt}
+use Rattle.sheet_head.specs.Form.{hasGiven, leastGiven, mostGiven, hasPlan, headOf, ListFor}
+use Rattle.call_sheet.specs.Sheets.{Sheet, sheetOf, ReadableSheet, SheetAt, printedSheet}
+use Rattle.sheet_head.specs.Reading.{HeadOf, HeadHolds, HeadAt}
 use Rattle.call_sheet.specs.Running.{planLength, HoldsSheet, ReadySheet, SheetPrints, Answered, AnswersSheet}
 use Rattle.call_sheet.proofs.Held.{either-fits}
-use Rattle.call_sheet.proofs.Lines.{SameHead, same-head, head-length, plan-shown, plan-known}
+use Rattle.sheet_head.proofs.Lines.{SameHead, same-head, head-length, plan-shown, plan-known}
 
 -- ---- the parts of a sheet
 

@@ -10,8 +10,9 @@ use Rattle.job_file.specs.Reading.{Buffers}
 use Rattle.answers.proofs.Laws.{taskIn, same-task}
 use Rattle.printing.specs.Printing.{Prints}
 use Rattle.sheet_lines.specs.Printed.{longestPlan}
-use Rattle.call_sheet.specs.declared.Head.{Head}
-use Rattle.call_sheet.specs.Sheets.{callOf, hasGiven, leastGiven, mostGiven, hasPlan, ListFor, printedCall}
+use Rattle.sheet_head.specs.declared.Head.{Head}
+use Rattle.sheet_head.specs.Form.{hasGiven, leastGiven, mostGiven, hasPlan, ListFor}
+use Rattle.call_sheet.specs.Sheets.{callOf, printedCall}
 use Rattle.call_sheet.specs.Running.{Runs, planLength, ReadySheet, SheetPrints}
 
 -- the one or the other is short enough

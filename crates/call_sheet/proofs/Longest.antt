@@ -14,9 +14,10 @@ use Rattle.model.proofs.Tasks.{file-length}
 use Rattle.job_file.proofs.Checked.{table-bytes}
 use Rattle.answers.specs.Answers.{blank}
 use Rattle.sheet_lines.specs.Printed.{longestPlan}
-use Rattle.call_sheet.specs.Sheets.{Sheet, hasGiven, leastGiven, mostGiven, hasPlan, lineIf, headOf, sheetOf, ListFor, ReadableSheet, SheetAt, longestSheet}
+use Rattle.sheet_head.specs.Form.{hasGiven, leastGiven, mostGiven, hasPlan, lineIf, headOf, ListFor}
+use Rattle.call_sheet.specs.Sheets.{Sheet, sheetOf, ReadableSheet, SheetAt, longestSheet}
 use Rattle.call_sheet.proofs.Held.{either-fits}
-use Rattle.call_sheet.proofs.Lines.{head-length}
+use Rattle.sheet_head.proofs.Lines.{head-length}
 
 line-bytes : (b : Bool) (least most m : ℕ) (known ns : List ℕ) → ListFor b least most known ns → most ≤ m → length (lineIf b ns) ≤ 14 * m + 1
 line-bytes true least most m known ns f l = omega (arith, f .1, line-length ns (fitting (f .2)))

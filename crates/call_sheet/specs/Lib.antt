@@ -1,3 +1,2 @@
 pub mod Sheets
-pub mod Reading
 pub mod Running

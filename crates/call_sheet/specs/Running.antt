@@ -12,10 +12,11 @@ use Rattle.job_file.specs.Reading.{Buffers}
 use Rattle.answers.specs.Answers.{Holds, Bounds}
 use Rattle.printing.specs.Printing.{Prints}
 use Rattle.sheet_lines.specs.Printed.{Printable, longestPlan, mostPrinted}
-use Rattle.call_sheet.specs.declared.Head.{Head}
+use Rattle.sheet_head.specs.declared.Head.{Head}
 use Rattle.call_sheet.specs.declared.SheetRead.{SheetRead}
 use Rattle.call_sheet.specs.declared.SheetRead.the-variants as R
-use Rattle.call_sheet.specs.Sheets.{Sheet, ReadableSheet, SheetAt, callOf, hasPlan, printedCall, printedSheet}
+use Rattle.sheet_head.specs.Form.{hasPlan}
+use Rattle.call_sheet.specs.Sheets.{Sheet, ReadableSheet, SheetAt, callOf, printedCall, printedSheet}
 
 -- a call's number, the stops and the plan that it is lent, and room to print into
 pub record Runs (call : ℕ) (given plan out : List ℕ) : Type 0 where

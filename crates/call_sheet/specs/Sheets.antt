@@ -1,17 +1,18 @@
 -- Call sheets: their written form, which are read, and what is printed for one.
 use mathlib.Core.Path.{_≡_}
 use Prim.Native.Nat.{ℕ, _+_, _≤_}
-use mathlib.Core.Bool.{Bool, true, false, cond, _||_}
-use mathlib.Core.List.{List, [], _∷_, _++_}
+use mathlib.Core.Bool.{cond}
+use mathlib.Core.List.{List, [], _++_}
 use lib.Dec.{eqb}
 use lib.ListN.{length}
 use Rattle.model.specs.Job.{Job, jobOf}
 use Rattle.model.specs.Run.{Task}
-use Rattle.model.specs.File.{line, fileOf, NoneOver, Readable, Stands}
+use Rattle.model.specs.File.{fileOf, Readable, Stands}
 use Rattle.model.specs.Refusals.{Arguments, asking, Call, Weigh, StartPlan, TwoOpt, Rebuild, Exhaustive, Pruned, Solve}
 use Rattle.model.specs.Calls.{costAnswer, startAnswer, solveAnswer, planLeft}
 use Rattle.refusals.specs.Asked.{unpriced, running}
 use Rattle.answers.specs.Answers.{blank}
+use Rattle.sheet_head.specs.Form.{hasGiven, leastGiven, mostGiven, hasPlan, headOf, ListFor}
 use Rattle.sheet_lines.specs.Printed.{printedWeight, printedStart, printedWeighed, printedSolved, longestPlan}
 
 -- a call's number, the given stops, the plan that is lent, and a task
@@ -33,40 +34,11 @@ callOf n =
     (cond (eqb n 5) Exhaustive
     (cond (eqb n 6) Pruned Solve)))))
 
--- for 3 and 4 a line with the given stops
-abbrev pub hasGiven : ℕ → Bool
-hasGiven n = eqb n 3 || eqb n 4
-
--- two of them for 3, none to eight for 4
-abbrev pub leastGiven : ℕ → ℕ
-leastGiven n = cond (eqb n 3) 2 0
-
-abbrev pub mostGiven : ℕ → ℕ
-mostGiven n = cond (eqb n 3) 2 8
-
--- for 1, 3 and 4 a line with the plan's numbers
-abbrev pub hasPlan : ℕ → Bool
-hasPlan n = eqb n 1 || (eqb n 3 || eqb n 4)
-
--- a line that is there, or is not
-abbrev pub lineIf : Bool → List ℕ → List ℕ
-lineIf true ns = line 14 ns
-lineIf false ns = []
-
--- the lines before the job file
-unfoldable pub headOf : ℕ → List ℕ → List ℕ → List ℕ
-headOf call given plan = line 14 (call ∷ []) ++ (lineIf (hasGiven call) given ++ lineIf (hasPlan call) plan)
-
 -- the written form of a sheet
 unfoldable pub sheetOf : Sheet → List ℕ
 sheetOf S = headOf (S .call) (S .given) (S .plan) ++ fileOf (S .task)
 
 -- ---- which sheets are read
-
--- the numbers of a line, so many of them; where there is no line they are known without it
-abbrev pub ListFor : Bool → ℕ → ℕ → List ℕ → List ℕ → Type 0
-ListFor true least most known ns = (least ≤ length ns) × (length ns ≤ most) × NoneOver ns
-ListFor false least most known ns = ns ≡ known
 
 -- a call without a plan line is lent v + n zeros
 pub record ReadableSheet (S : Sheet) : Type 0 where

@@ -1,8 +1,9 @@
 // Call sheets: a call's number, its lists and a job file are read from bytes, the call is run, and its answer is printed to bytes.
-use columns::Field;
 use job_file::Header;
 use job_file::TaskRead;
 use model::Prices;
+use sheet_head::Head;
+use sheet_head::HeadRead;
 ghost use mathlib.Core.Path.{_≡_};
 ghost use Prim.Native.Nat.{_≤_};
 ghost use lib.ListN.{length};
@@ -11,151 +12,13 @@ ghost use Rattle.job_file.specs.Reading.{buffers};
 ghost use Rattle.printing.specs.Printing.{Prints};
 ghost use Rattle.answers.specs.Answers.{taskOn};
 ghost use Rattle.sheet_lines.specs.Printed.{mostPrinted};
-ghost use Rattle.call_sheet.specs.Sheets.{callOf, hasGiven, leastGiven, mostGiven, hasPlan, printedCall};
-ghost use Rattle.call_sheet.specs.Reading.{CountAt, ListAt, ListIf, CallAt, Lent, HeadAt};
+ghost use Rattle.call_sheet.specs.Sheets.{callOf, printedCall};
 ghost use Rattle.call_sheet.specs.Running.{Runs, JobPrints, planLength, ReadySheet, SheetPrints, AnswersSheet};
-
-// A line of numbers that was read: how many there are, and the position after it.
-pub struct Listed {
-    pub count: usize,
-    pub end: usize,
-}
-
-pub enum ListRead {
-    Read(Listed),
-    Bad,
-}
-
-// What stands before the job file of a sheet: the call's number, how many stops are given, how many numbers stand in the
-// line of the plan (0 where there is none), and where the job file begins.
-pub struct Head {
-    pub call: u32,
-    pub given: usize,
-    pub plan: usize,
-    pub end: usize,
-}
-
-pub enum HeadRead {
-    Read(Head),
-    Bad,
-}
 
 // The position after a sheet that was answered, and how many bytes are printed for it; or how many are where no sheet stands.
 pub enum SheetRead {
     Answered(usize, usize),
     Bad(usize),
-}
-
-// How many numbers stand in the line at a position, if one of at most so many stands there.
-fn count_fields(bytes: &[u8], at: usize, most: usize) -> usize
-    ensures { λ r. ⌜ CountAt (now (bytes .entry)) at most r ⌝ }
-{
-    let mut next = at;
-    let mut i: usize = 0;
-    while i < most {
-        let Field::Number(_) = columns::read_field(bytes, next) else {
-            return i;
-        };
-        next += 14;
-        i += 1;
-    }
-    i
-}
-
-// The numbers of the line at a position, at least and at most so many, written to the front of a list.
-fn read_list(bytes: &[u8], at: usize, least: usize, most: usize, list: &mut [u32]) -> ListRead
-    requires { ⌜ most ≤ length (now list) ⌝ }
-    ensures { λ r. ⌜ ListAt (now (bytes .entry)) at least most (now (list .entry)) (now (list .exit)) r ⌝ }
-{
-    let count = count_fields(bytes, at, most);
-    if count < least {
-        return ListRead::Bad;
-    }
-    if !job_file::check_line(bytes, at, count) {
-        return ListRead::Bad;
-    }
-    job_file::fill_lines(bytes, at, 1, count, list);
-    ListRead::Read(Listed {
-        count,
-        end: at + (14 * count + 1),
-    })
-}
-
-// The given stops of a call, where it has a line with them.
-fn read_given(bytes: &[u8], at: usize, call: u32, given: &mut [u32]) -> ListRead
-    requires { ⌜ 8 ≤ length (now given) ⌝ }
-    ensures { λ r. ⌜ ListIf (hasGiven call) (now (bytes .entry)) at (leastGiven call) (mostGiven call)
-        (now (given .entry)) (now (given .exit)) r ⌝ }
-{
-    if call == 3 {
-        return read_list(bytes, at, 2, 2, given);
-    }
-    if call == 4 {
-        return read_list(bytes, at, 0, 8, given);
-    }
-    ListRead::Read(Listed { count: 0, end: at })
-}
-
-// Whether a call has a line with the plan's numbers.
-fn has_plan(call: u32) -> bool
-    ensures { λ r. ⌜ r ≡ hasPlan call ⌝ }
-{
-    if call == 1 {
-        return true;
-    }
-    if call == 3 {
-        return true;
-    }
-    call == 4
-}
-
-// The numbers of a call's plan, where it has a line with them.
-fn read_plan(bytes: &[u8], at: usize, call: u32, plan: &mut [u32]) -> ListRead
-    requires { ⌜ 96 ≤ length (now plan) ⌝ }
-    ensures { λ r. ⌜ ListIf (hasPlan call) (now (bytes .entry)) at 0 96 (now (plan .entry)) (now (plan .exit)) r ⌝ }
-{
-    if has_plan(call) {
-        return read_list(bytes, at, 0, 96, plan);
-    }
-    ListRead::Read(Listed { count: 0, end: at })
-}
-
-// The call's number in the line at a position, 0 where none of the seven stands there.
-fn read_call(bytes: &[u8], at: usize) -> u32
-    ensures { λ r. ⌜ CallAt (now (bytes .entry)) at r ⌝ }
-{
-    if !job_file::check_line(bytes, at, 1) {
-        return 0;
-    }
-    let call = columns::number_at(bytes, at);
-    if 7 < call {
-        return 0;
-    }
-    call
-}
-
-// The lines of a sheet before its job file: its lists go to the front of those that are lent.
-fn read_head(bytes: &[u8], at: usize, given: &mut [u32], plan: &mut [u32]) -> HeadRead
-    requires { ⌜ Lent (now given) (now plan) ⌝ }
-    ensures { λ r. ⌜ HeadAt (now (bytes .entry)) at (now (given .entry)) (now (plan .entry)) (now (given .exit)) (now (plan .exit)) r ⌝ }
-{
-    let call = read_call(bytes, at);
-    if call < 1 {
-        return HeadRead::Bad;
-    }
-    let ListRead::Read(g) = read_given(bytes, at + 15, call, given) else {
-        return HeadRead::Bad;
-    };
-    let next = g.end;
-    let ListRead::Read(p) = read_plan(bytes, next, call, plan) else {
-        return HeadRead::Bad;
-    };
-    HeadRead::Read(Head {
-        call,
-        given: g.count,
-        plan: p.count,
-        end: p.end,
-    })
 }
 
 // Runs a call that answers a cost and a plan: two_opt, rebuild, exhaustive or pruned.
@@ -264,7 +127,7 @@ fn run_call(
 fn plan_length(call: u32, lined: usize, whole: usize) -> usize
     ensures { λ r. ⌜ r ≡ planLength call lined whole ⌝ }
 {
-    if has_plan(call) {
+    if sheet_head::has_plan(call) {
         return lined;
     }
     whole
@@ -316,7 +179,7 @@ pub fn answer_sheet(bytes: &[u8], at: usize, out: &mut [u8]) -> SheetRead
 {
     let mut given = [0u32; 8];
     let mut plan = [0u32; 96];
-    let HeadRead::Read(head) = read_head(bytes, at, &mut given, &mut plan) else {
+    let HeadRead::Read(head) = sheet_head::read_head(bytes, at, &mut given, &mut plan) else {
         return SheetRead::Bad(printing::print_refusal(14, out));
     };
     let file = head.end;

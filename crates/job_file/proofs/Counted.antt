@@ -10,22 +10,11 @@ use Rattle.model.proofs.Pieces.{none-over-nil, none-over-cons}
 use Rattle.model.proofs.Tasks.{draw-parts, draws-stand}
 use Rattle.columns.specs.Field.{NumberAt}
 use Rattle.job_file.specs.declared.Draws.the-variants as D
-use Rattle.job_file.specs.Standing.{LineAt, LinesAt}
+use Rattle.lines.specs.Standing.{LineAt, LinesAt}
 use Rattle.job_file.specs.Reading.{IsDraws, DrawsAt}
-use Rattle.job_file.proofs.Checks.{line-start}
-use Rattle.job_file.proofs.First.{fields-known}
+use Rattle.lines.proofs.Known.{one-number}
 
 module _ (bytes : List ℕ) (at : ℕ) where
-  -- a line of one number that was read is the line of that number
-  pub one-number : (x : ℕ) (h : LineAt bytes at 1) → NumberAt bytes at x → h .numbers ≡ x ∷ []
-  one-number x h n =
-      fields-known bytes at (h .numbers) (x ∷ []) (h .count) (h .small) (line-start bytes at 1 h) λ i l.
-      one i l
-    where
-      one : (i : ℕ) → i < 1 → NumberAt bytes (at + 14 * i) (getD (x ∷ []) i 0)
-      one zero l = rw add-zero n
-      one (suc i) l = absurd (omega arith)
-
   -- what stands where draws stand
   module _ (ds : List ℕ) (d : IsDraws ds) (s : Stands bytes at (drawLines ds)) where
     count-small : NoneOver (length ds ∷ [])
@@ -41,7 +30,7 @@ module _ (bytes : List ℕ) (at : ℕ) where
     -- which is the number that was read
     pub draws-counted : (x : ℕ) → NumberAt bytes at x → x ≡ length ds
     unfolding draws-count
-    draws-counted x n = ap (λ ns. getD ns 0 0) (sym (one-number x draws-count n))
+    draws-counted x n = ap (λ ns. getD ns 0 0) (sym (one-number bytes at x draws-count n))
 
     draws-lines : LinesAt bytes (at + 15) (length ds) 1
     draws-lines = record { numbers = ds; count = omega arith; small = d .small; stand = parts .1 }
@@ -62,7 +51,7 @@ module _ (bytes : List ℕ) (at : ℕ) where
   draws-whole x h n some few k =
       let ds = k .numbers in
       let e : x ≡ length ds = omega (arith, k .count) in
-      let l : Stands bytes at (line 14 (length ds ∷ [])) = rw (one-number x h n, e) at (h .stand) in (
+      let l : Stands bytes at (line 14 (length ds ∷ [])) = rw (one-number bytes at x h n, e) at (h .stand) in (
         ds,
         sym e,
         record { some = omega arith; few = omega arith; small = k .small },

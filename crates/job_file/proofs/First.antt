@@ -14,9 +14,10 @@ use Rattle.columns.specs.declared.Field.the-variants.{Number, Bad}
 use Rattle.columns.specs.Field.{FieldAt, NumberAt}
 use Rattle.job_file.specs.declared.FirstNumbers.{FirstNumbers}
 use Rattle.job_file.specs.declared.FirstLine.the-variants as F
-use Rattle.job_file.specs.Standing.{FieldsAt, LineAt}
+use Rattle.lines.specs.Standing.{FieldsAt, LineAt}
 use Rattle.job_file.specs.Reading.{firstList, InRange, FirstAt}
-use Rattle.job_file.proofs.Checks.{line-start, line-end}
+use Rattle.lines.proofs.Checks.{line-start, line-end}
+use Rattle.lines.proofs.Known.{fields-known}
 
 -- the numbers of the first five fields, and those of the last two
 abbrev pub firstFive : FirstNumbers → List ℕ
@@ -70,13 +71,6 @@ module _ (bytes : List ℕ) (at : ℕ) where
 
   pub no-first-two : (LineAt bytes (at + 84) 2 → ⊥) → FirstAt bytes at F.Bad
   no-first-two none f r s = none (first-parts f r bytes at s .2)
-
--- numbers that were read from fields are those that stand there
-pub fields-known : (bytes : List ℕ) (at : ℕ) (ms ns : List ℕ) → length ms ≡ length ns → NoneOver ms → Stands bytes at (fields 14 ms)
-    → ((i : ℕ) → i < length ns → NumberAt bytes (at + 14 * i) (getD ns i 0)) → ms ≡ ns
-fields-known bytes at ms ns c small stand known =
-    ext-getD 0 ms ns c λ i l.
-    sym (known i (omega arith) .number (getD ms i 0) (small .small i) (field-at bytes at ms (fitting small) stand i l))
 
 five : (P : ℕ → Type 0) → P 0 → P 1 → P 2 → P 3 → P 4 → (i : ℕ) → i < 5 → P i
 five P a b c d e zero l = a

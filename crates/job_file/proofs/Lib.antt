@@ -1,5 +1,3 @@
-pub mod Checks
-pub mod Fills
 pub mod First
 pub mod Counted
 pub mod Checked

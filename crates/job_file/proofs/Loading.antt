@@ -12,8 +12,8 @@ use Rattle.model.proofs.Pieces.{stands-within, line-length}
 use Rattle.model.proofs.Tasks.{Placed, placed, first-fitting, draw-parts, stopsAt, distancesAt, countAt, drawsAt}
 use Rattle.job_file.specs.declared.Header.{Header}
 use Rattle.job_file.specs.declared.TaskRead.the-variants as R
-use Rattle.job_file.specs.Standing.{Fillable, Filled}
-use Rattle.job_file.specs.Reading.{headerOf, Buffers, Room, over, Loadable, Loads}
+use Rattle.lines.specs.Standing.{Fillable, Filled, over}
+use Rattle.job_file.specs.Reading.{headerOf, Buffers, Room, Loadable, Loads}
 use Rattle.job_file.proofs.Checked.{table-bytes}
 
 -- what a header that was read says of the sizes

@@ -1,8 +1,8 @@
 -- What is read from a file: its first line, its draws, and the whole task.
 use mathlib.Core.Path.{_≡_}
 use Prim.Native.Nat.{ℕ, _+_, _*_, _^_, _≤_, _<_}
-use mathlib.Core.List.{List, [], _∷_, _++_}
-use lib.ListN.{length, drop}
+use mathlib.Core.List.{List, [], _∷_}
+use lib.ListN.{length}
 use Rattle.model.specs.Job.{vehicleCount, stopCount}
 use Rattle.model.specs.Run.{Task}
 use Rattle.model.specs.File.{line, drawLines, largestNumber, NoneOver, Stands, Accepted, AcceptedAt}
@@ -14,7 +14,7 @@ use Rattle.job_file.specs.declared.Draws.the-variants as D
 use Rattle.job_file.specs.declared.Header.{Header}
 use Rattle.job_file.specs.declared.TaskRead.{TaskRead}
 use Rattle.job_file.specs.declared.TaskRead.the-variants as R
-use Rattle.job_file.specs.Standing.{LinesAt}
+use Rattle.lines.specs.Standing.{LinesAt, over}
 
 -- ---- the first line
 
@@ -96,10 +96,6 @@ pub record Room (m : Buffers) : Type 0 where
   pub stops : 64 ≤ length (m .stops)
   pub distances : 6400 ≤ length (m .distances)
   pub draws : 1024 ≤ length (m .draws)
-
--- a list laid over the front of another
-abbrev pub over : List ℕ → List ℕ → List ℕ
-over xs ys = xs ++ drop (length xs) ys
 
 -- the lists begin with the task's, and are otherwise as they were
 abbrev pub loaded : Task → Buffers → Buffers

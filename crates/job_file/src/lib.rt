@@ -5,7 +5,7 @@ use model::Prices;
 ghost use mathlib.Core.Path.{_≡_};
 ghost use Prim.Native.Nat.{ℕ, _+_, _*_, _≤_};
 ghost use lib.ListN.{length};
-ghost use Rattle.job_file.specs.Standing.{Says, FieldsAt, LineAt, LinesAt, Fillable, Filled};
+ghost use Rattle.lines.specs.Standing.{Says};
 ghost use Rattle.job_file.specs.Reading.{FirstAt, TablesAt, DrawsAt, CheckedAt, buffers, Room, Loadable, Loads, ReadAt, ReadWhole};
 
 // The numbers of a file's first line.
@@ -48,72 +48,6 @@ pub enum TaskRead {
     Refused(u32),
 }
 
-// Whether so many numbers up to 4294967295 stand in fields from a position on.
-fn check_fields(bytes: &[u8], at: usize, count: usize) -> bool
-    ensures { λ r. ⌜ Says r (FieldsAt (now (bytes .entry)) at count) ⌝ }
-{
-    let mut next = at;
-    let mut i: usize = 0;
-    while i < count {
-        let Field::Number(n) = columns::read_field(bytes, next) else {
-            return false;
-        };
-        if 4294967295 < n {
-            return false;
-        }
-        next += 14;
-        i += 1;
-    }
-    true
-}
-
-// Whether a line of so many numbers stands there.
-pub fn check_line(bytes: &[u8], at: usize, count: usize) -> bool
-    ensures { λ r. ⌜ Says r (LineAt (now (bytes .entry)) at count) ⌝ }
-{
-    if !check_fields(bytes, at, count) {
-        return false;
-    }
-    let end = at + 14 * count;
-    if bytes.len() <= end {
-        return false;
-    }
-    if bytes[end] != b'\n' {
-        return false;
-    }
-    true
-}
-
-// Whether so many lines of so many numbers each stand there.
-fn check_lines(bytes: &[u8], at: usize, lines: usize, count: usize) -> bool
-    ensures { λ r. ⌜ Says r (LinesAt (now (bytes .entry)) at lines count) ⌝ }
-{
-    let mut next = at;
-    let mut i: usize = 0;
-    while i < lines {
-        if !check_line(bytes, next, count) {
-            return false;
-        }
-        next += 14 * count + 1;
-        i += 1;
-    }
-    true
-}
-
-// The numbers of such lines, written to the front of a list.
-pub fn fill_lines(bytes: &[u8], at: usize, lines: usize, count: usize, list: &mut [u32])
-    requires { ⌜ Fillable (now bytes) at lines count (now list) ⌝ }
-    ensures { λ _. ⌜ Filled (now (bytes .entry)) at lines count (now (list .entry)) (now (list .exit)) ⌝ }
-{
-    let total = lines * count;
-    let mut i: usize = 0;
-    while i < total {
-        // after i numbers and the line feeds among them
-        list[i] = columns::number_at(bytes, at + (14 * i + i / count));
-        i += 1;
-    }
-}
-
 // The first line of a file, which is 113 bytes long: no position in it wraps once there is room for it.
 fn read_first_line(bytes: &[u8], at: usize) -> FirstLine
     ensures { λ r. ⌜ FirstAt (now (bytes .entry)) at r ⌝ }
@@ -124,13 +58,13 @@ fn read_first_line(bytes: &[u8], at: usize) -> FirstLine
     if bytes.len() - 113 < at {
         return FirstLine::Bad;
     }
-    if !check_fields(bytes, at, 5) {
+    if !lines::check_fields(bytes, at, 5) {
         return FirstLine::Bad;
     }
     let Field::Number(missed) = columns::read_field(bytes, at + 70) else {
         return FirstLine::Bad;
     };
-    if !check_line(bytes, at + 84, 2) {
+    if !lines::check_line(bytes, at + 84, 2) {
         return FirstLine::Bad;
     }
     FirstLine::Numbers(FirstNumbers {
@@ -149,15 +83,15 @@ fn read_first_line(bytes: &[u8], at: usize) -> FirstLine
 fn check_tables(bytes: &[u8], at: usize, v: usize, n: usize, l: usize) -> bool
     ensures { λ r. ⌜ Says r (TablesAt (now (bytes .entry)) at v n l) ⌝ }
 {
-    if !check_lines(bytes, at, v, 2) {
+    if !lines::check_lines(bytes, at, v, 2) {
         return false;
     }
     let stops = at + v * 29;
-    if !check_lines(bytes, stops, n, 1) {
+    if !lines::check_lines(bytes, stops, n, 1) {
         return false;
     }
     let distances = stops + n * 15;
-    if !check_lines(bytes, distances, l, l) {
+    if !lines::check_lines(bytes, distances, l, l) {
         return false;
     }
     true
@@ -167,7 +101,7 @@ fn check_tables(bytes: &[u8], at: usize, v: usize, n: usize, l: usize) -> bool
 fn check_draws(bytes: &[u8], at: usize) -> Draws
     ensures { λ r. ⌜ DrawsAt (now (bytes .entry)) at r ⌝ }
 {
-    if !check_line(bytes, at, 1) {
+    if !lines::check_line(bytes, at, 1) {
         return Draws::Bad;
     }
     let count = columns::number_at(bytes, at) as usize;
@@ -177,7 +111,7 @@ fn check_draws(bytes: &[u8], at: usize) -> Draws
     if 1024 < count {
         return Draws::Bad;
     }
-    if !check_lines(bytes, at + 15, count, 1) {
+    if !lines::check_lines(bytes, at + 15, count, 1) {
         return Draws::Bad;
     }
     Draws::Count(count)
@@ -247,10 +181,10 @@ fn fill_at(
     let second = at + 113 + v * 29;
     let third = second + n * 15;
     let fourth = third + l * (14 * l + 1) + 15;
-    fill_lines(bytes, at + 113, v, 2, vehicles);
-    fill_lines(bytes, second, n, 1, stops);
-    fill_lines(bytes, third, l, l, distances);
-    fill_lines(bytes, fourth, d, 1, draws);
+    lines::fill_lines(bytes, at + 113, v, 2, vehicles);
+    lines::fill_lines(bytes, second, n, 1, stops);
+    lines::fill_lines(bytes, third, l, l, distances);
+    lines::fill_lines(bytes, fourth, d, 1, draws);
 }
 
 // The task whose file stands at a position, where others may follow it: its lists go to the front of those that are lent.

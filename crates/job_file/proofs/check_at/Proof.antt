@@ -3,7 +3,7 @@ use Prim.Native.Nat.{_+_, _≤_}
 use native.Mathlib.Omega.{arith}
 use lib.ListN.{length}
 use borrow.Author.Needs.{needs}
-use Rattle.job_file.proofs.Checks.{said, denied}
+use Rattle.lines.proofs.Checks.{said, denied}
 use Rattle.job_file.proofs.Checked.{table-bytes, no-first, first-within, over-limit, no-tables, no-draws-there, few-draws, all-checked}
 use Rattle.job_file.proofs.check_at.Statement.{statement}
 use Rattle.job_file.proofs.check_at.Tie as tie

@@ -1,7 +1,7 @@
 -- `job_file::check_draws` meets its contract.
 use native.Mathlib.Omega.{arith}
 use borrow.Author.Needs.{needs}
-use Rattle.job_file.proofs.Checks.{said, denied, line-end}
+use Rattle.lines.proofs.Checks.{said, denied, line-end}
 use Rattle.job_file.proofs.Counted.{no-count, wrong-count, no-draws, draws-whole}
 use Rattle.job_file.proofs.check_draws.Statement.{statement}
 use Rattle.job_file.proofs.check_draws.Tie as tie

@@ -1,7 +1,7 @@
 -- `job_file::check_tables` meets its contract.
 use native.Mathlib.Omega.{arith}
 use borrow.Author.Needs.{needs}
-use Rattle.job_file.proofs.Checks.{said, denied, lines-end}
+use Rattle.lines.proofs.Checks.{said, denied, lines-end}
 use Rattle.job_file.proofs.check_tables.Statement.{statement}
 use Rattle.job_file.proofs.check_tables.Tie as tie
 

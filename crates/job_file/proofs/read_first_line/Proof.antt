@@ -1,7 +1,7 @@
 -- `job_file::read_first_line` meets its contract.
 use native.Mathlib.Omega.{arith}
 use borrow.Author.Needs.{needs}
-use Rattle.job_file.proofs.Checks.{said, denied}
+use Rattle.lines.proofs.Checks.{said, denied}
 use Rattle.job_file.proofs.First.{no-first-room, no-first-five, no-first-missed, no-first-two, first-whole}
 use Rattle.job_file.proofs.read_first_line.Statement.{statement}
 use Rattle.job_file.proofs.read_first_line.Tie as tie

@@ -1,0 +1,65 @@
+-- The lines before the job file: which are read for which call.
+use mathlib.Core.Path.{_≡_, refl, ap}
+use Prim.Native.Nat.{ℕ, _≤_, _<_}
+use native.Mathlib.Omega.{arith}
+use mathlib.Core.Bool.{Bool, true, false}
+use mathlib.Core.List.{List, [], _∷_}
+use borrow.Author.Tests.{ne-eqb}
+use lib.ListN.{getD}
+use Rattle.model.specs.File.{line, Stands}
+use Rattle.model.proofs.Pieces.{none-over-nil, none-over-cons}
+use Rattle.columns.specs.Field.{NumberAt}
+use Rattle.lines.specs.Standing.{LineAt}
+use Rattle.lines.proofs.Known.{one-number}
+use Rattle.sheet_head.specs.declared.ListRead.{ListRead}
+use Rattle.sheet_head.specs.declared.ListRead.the-variants as L
+use Rattle.sheet_head.specs.Form.{hasGiven, leastGiven, mostGiven, hasPlan}
+use Rattle.sheet_head.specs.Reading.{ListAt, ListIf, CallAt}
+
+-- ---- the call's number
+
+module _ (bytes : List ℕ) (at : ℕ) where
+  -- the line of a call's number
+  call-line : (n : ℕ) → n ≤ 7 → Stands bytes at (line 14 (n ∷ [])) → LineAt bytes at 1
+  call-line n l s = record { numbers = n ∷ []; count = refl; small = none-over-cons (omega arith) none-over-nil; stand = s }
+
+  pub no-call : (LineAt bytes at 1 → ⊥) → CallAt bytes at 0
+  no-call none = record { last = omega arith; there = λ l. absurd (omega arith); none = λ _ n l b s. none (call-line n b s) }
+
+  module _ (x : ℕ) (number : NumberAt bytes at x) where
+    -- the number that was read is the only one
+    only-call : (n : ℕ) → n ≤ 7 → Stands bytes at (line 14 (n ∷ [])) → n ≡ x
+    unfolding call-line
+    only-call n l s = ap (λ ns. getD ns 0 0) (one-number bytes at x (call-line n l s) number)
+
+    pub large-call : 7 < x → CallAt bytes at 0
+    large-call b =
+        record { last = omega arith; there = λ l. absurd (omega arith); none = λ _ n l k s. omega (arith, only-call n k s) }
+
+    pub call-read : LineAt bytes at 1 → x ≤ 7 → CallAt bytes at x
+    call-read h l =
+        record {
+          last = l;
+          there = λ _. rw (one-number bytes at x h number) at (h .stand);
+          none = λ z n k b s. omega (arith, only-call n b s);
+        }
+
+-- ---- the lists of a call
+
+module _ (call : ℕ) (bytes : List ℕ) (at : ℕ) (old new : List ℕ) (a : ListRead) where
+  pub given-two : call ≡ 3 → ListAt bytes at 2 2 old new a → ListIf (hasGiven call) bytes at (leastGiven call) (mostGiven call) old new a
+  given-two e h = rw e h
+
+  pub given-some : call ≡ 4 → ListAt bytes at 0 8 old new a → ListIf (hasGiven call) bytes at (leastGiven call) (mostGiven call) old new a
+  given-some e h = rw e h
+
+  pub plan-some : (b : Bool) → b ≡ hasPlan call → b ≡ true → ListAt bytes at 0 96 old new a → ListIf (hasPlan call) bytes at 0 96 old new a
+  plan-some b f e h = rw (← f, e) h
+
+module _ (call : ℕ) (bytes : List ℕ) (at : ℕ) (old : List ℕ) where
+  pub given-none : (call ≡ 3 → ⊥) → (call ≡ 4 → ⊥)
+      → ListIf (hasGiven call) bytes at (leastGiven call) (mostGiven call) old old (L.Read (record { count = 0; end = at }))
+  given-none a b = rw (ne-eqb call 3 a, ne-eqb call 4 b) (refl, refl)
+
+  pub plan-none : (b : Bool) → b ≡ hasPlan call → b ≡ false → ListIf (hasPlan call) bytes at 0 96 old old (L.Read (record { count = 0; end = at }))
+  plan-none b f e = rw (← f, e) (refl, refl)
