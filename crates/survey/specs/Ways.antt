@@ -6,8 +6,8 @@ use lib.ListN.{take, drop}
 use Rattle.model.specs.Plan.{Route}
 use Rattle.model.specs.Legs.{depot}
 use Rattle.distance.specs.Ways.{tableLegs, walked, lastPlace}
-use Rattle.gaps.specs.declared.Way.{Way}
-use Rattle.gaps.specs.declared.Gap.{Gap}
+use Rattle.survey.specs.declared.Way.{Way}
+use Rattle.survey.specs.declared.Gap.{Gap}
 
 -- the first stop of a route, or `to` for an empty route
 abbrev pub firstPlace : ℕ → Route → ℕ

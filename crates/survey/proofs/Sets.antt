@@ -20,7 +20,7 @@ use Rattle.model.proofs.Arrangements.{drained-le}
 use Rattle.stop_set.proofs.Laws.{count-including, stops-none}
 use Rattle.words.specs.Gaps.{regionsOf, regionAt, Gapped}
 use Rattle.words.proofs.Gaps.{region-at}
-use Rattle.gaps.specs.Sets.{Alone, Gathers}
+use Rattle.survey.specs.Sets.{Alone, Gathers}
 
 module _ (set : ℕ) (xs : List ℕ) where
   -- the first i stops are put in

@@ -1,12 +1,12 @@
--- `gaps::along` meets its contract: the stops up to i are passed.
+-- `survey::along` meets its contract: the stops up to i are passed.
 use Prim.Native.Nat.{_-_, _<_}
 use native.Mathlib.Omega.{arith}
 use mathlib.Core.Path.{refl}
 use lib.ListN.{length, getD}
 use Rattle.model.proofs.Counts.{below-at}
-use Rattle.gaps.proofs.Ways.{Going, going-none, going-more, going-all}
-use Rattle.gaps.proofs.along.Statement.{statement}
-use Rattle.gaps.proofs.along.Tie as tie
+use Rattle.survey.proofs.Ways.{Going, going-none, going-more, going-all}
+use Rattle.survey.proofs.along.Statement.{statement}
+use Rattle.survey.proofs.along.Tie as tie
 
 abbrev Inv-loop : tie.InvT-loop
 Inv-loop legs from part sum₀ last₀ i₀ sum last i = Going legs from part i sum last

@@ -1,12 +1,12 @@
--- `gaps::survey` meets its contract: the gaps before q are written.
+-- `survey::survey` meets its contract: the gaps before q are written.
 use Prim.Native.Nat.{_+_, _-_, _*_}
 use mathlib.Core.Path.{sym, ap, subst, _∙_}
 use native.Mathlib.Omega.{arith}
 use lib.ListN.{length}
 use Rattle.distance.specs.Ways.{Drivable}
-use Rattle.gaps.proofs.Surveys.{Surveying, surveying-none, surveying-more, surveyed, turn}
-use Rattle.gaps.proofs.survey.Statement.{statement}
-use Rattle.gaps.proofs.survey.Tie as tie
+use Rattle.survey.proofs.Surveys.{Surveying, surveying-none, surveying-more, surveyed, turn}
+use Rattle.survey.proofs.survey.Statement.{statement}
+use Rattle.survey.proofs.survey.Tie as tie
 
 abbrev Inv-loop : tie.InvT-loop
 Inv-loop legs plan v n regions gaps₀ q₀ gaps q = Surveying legs v plan regions q gaps

@@ -12,9 +12,9 @@ use Rattle.model.proofs.Lists.{one-same}
 use Rattle.model.proofs.Counts.{below-at, count-take-le, count-drop-le}
 use Rattle.distance.specs.Ways.{tableLegs, walked, lastPlace, Below, Drivable}
 use Rattle.distance.proofs.Laws.{walked-more, last-more, way-last}
-use Rattle.gaps.specs.declared.Way.{Way}
-use Rattle.gaps.specs.declared.Gap.{Gap}
-use Rattle.gaps.specs.Ways.{firstPlace, wayOn, Stepped, Measured}
+use Rattle.survey.specs.declared.Way.{Way}
+use Rattle.survey.specs.declared.Gap.{Gap}
+use Rattle.survey.specs.Ways.{firstPlace, wayOn, Stepped, Measured}
 
 -- places of the table
 pub last-near : (a : ℕ) (r : Route) → a < 80 → Below 64 r → lastPlace a r < 80

@@ -1,11 +1,11 @@
--- `gaps::gather` meets its contract: the stops up to i are put in.
+-- `survey::gather` meets its contract: the stops up to i are put in.
 use Prim.Native.Nat.{_-_, _≤_}
 use native.Mathlib.Omega.{arith}
 use lib.ListN.{length}
 use Rattle.model.proofs.Counts.{below-at}
-use Rattle.gaps.proofs.Sets.{Gathering, gathering-none, gathering-more, gathering-all}
-use Rattle.gaps.proofs.gather.Statement.{statement}
-use Rattle.gaps.proofs.gather.Tie as tie
+use Rattle.survey.proofs.Sets.{Gathering, gathering-none, gathering-more, gathering-all}
+use Rattle.survey.proofs.gather.Statement.{statement}
+use Rattle.survey.proofs.gather.Tie as tie
 
 abbrev Inv-loop : tie.InvT-loop
 Inv-loop set part all₀ i₀ all i = (i ≤ length part) × Gathering set part i all

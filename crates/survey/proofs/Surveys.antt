@@ -13,9 +13,9 @@ use Rattle.model.proofs.PlanForm.{lent-length, lent-placed}
 use Rattle.distance.specs.Ways.{Drivable}
 use Rattle.words.proofs.Gaps.{stretch-at}
 use Rattle.words.specs.Gaps.{regionsOf, regionAt, Gapped}
-use Rattle.gaps.specs.declared.Gap.{Gap}
-use Rattle.gaps.specs.Ways.{Measured}
-use Rattle.gaps.specs.Here.{gapAt, Stored, Surveyed-at}
+use Rattle.survey.specs.declared.Gap.{Gap}
+use Rattle.survey.specs.Ways.{Measured}
+use Rattle.survey.specs.Surveys.{gapAt, Stored, Surveyed-at}
 
 -- ---- four numbers are written
 

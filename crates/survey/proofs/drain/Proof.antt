@@ -1,4 +1,4 @@
--- `gaps::drain` meets its contract: the stops of the regions before q are in the set.
+-- `survey::drain` meets its contract: the stops of the regions before q are in the set.
 use Prim.Native.Nat.{_+_, _-_, _*_, _≤_}
 use mathlib.Core.Path.{ap}
 use native.Mathlib.Omega.{arith}
@@ -6,11 +6,11 @@ use lib.ListN.{length, take}
 use Rattle.model.specs.Plan.{decode}
 use Rattle.model.specs.Region.{drained}
 use Rattle.words.specs.Gaps.{regionsOf, regionAt}
-use Rattle.gaps.specs.Sets.{Gathers}
-use Rattle.gaps.proofs.Sets.{turn-alone, turn-gathered, regions-gathered}
-use Rattle.gaps.proofs.Surveys.{turn}
-use Rattle.gaps.proofs.drain.Statement.{statement}
-use Rattle.gaps.proofs.drain.Tie as tie
+use Rattle.survey.specs.Sets.{Gathers}
+use Rattle.survey.proofs.Sets.{turn-alone, turn-gathered, regions-gathered}
+use Rattle.survey.proofs.Surveys.{turn}
+use Rattle.survey.proofs.drain.Statement.{statement}
+use Rattle.survey.proofs.drain.Tie as tie
 
 abbrev Inv-loop : tie.InvT-loop
 Inv-loop plan v n regions set₀ q₀ set q = (q ≤ length (regionsOf regions)) × Gathers 0 (drained (decode v plan) (take q (regionsOf regions))) set

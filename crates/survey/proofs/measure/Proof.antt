@@ -1,4 +1,4 @@
--- `gaps::measure` meets its contract.
+-- `survey::measure` meets its contract.
 use Prim.Native.Nat.{ℕ, _+_, _-_, _<_}
 use native.Mathlib.Omega.{arith}
 use mathlib.Core.Path.{refl, sym}
@@ -8,10 +8,10 @@ use lib.Seq.{length-take-le}
 use Rattle.model.proofs.Counts.{below-at}
 use Rattle.distance.specs.Ways.{Drivable}
 use Rattle.model.proofs.Lists.{part-end}
-use Rattle.gaps.proofs.Ways.{drivable-take, drivable-drop, measured-end, measured-on}
+use Rattle.survey.proofs.Ways.{drivable-take, drivable-drop, measured-end, measured-on}
 use borrow.Author.Needs.{needs}
-use Rattle.gaps.proofs.measure.Statement.{statement}
-use Rattle.gaps.proofs.measure.Tie as tie
+use Rattle.survey.proofs.measure.Statement.{statement}
+use Rattle.survey.proofs.measure.Tie as tie
 
 -- a stop that comes after the gap
 first-small : (r : List ℕ) (i : ℕ) → Drivable r → i < length r → getD r i 0 < 64

@@ -1,10 +1,10 @@
--- `gaps::store` meets its contract.
+-- `survey::store` meets its contract.
 use native.Mathlib.Omega.{arith}
 use lib.ListN.{length-set}
-use Rattle.gaps.proofs.Surveys.{stored}
+use Rattle.survey.proofs.Surveys.{stored}
 use borrow.Author.Needs.{needs}
-use Rattle.gaps.proofs.store.Statement.{statement}
-use Rattle.gaps.proofs.store.Tie as tie
+use Rattle.survey.proofs.store.Statement.{statement}
+use Rattle.survey.proofs.store.Tie as tie
 
 cast-gaps : tie.Need-cast-gaps
 cast-gaps c = search needs
