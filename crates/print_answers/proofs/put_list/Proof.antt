@@ -1,4 +1,4 @@
--- `printing::put_list` meets its contract.
+-- `print_answers::put_list` meets its contract.
 use mathlib.Core.Path.{_≡_, refl}
 use Prim.Native.Nat.{_-_, _≤_}
 use native.Mathlib.Omega.{arith}
@@ -7,9 +7,9 @@ use borrow.Author.Needs.{needs}
 use Rattle.model.specs.File.{fields}
 use Rattle.model.proofs.Pieces.{Fitting}
 use Rattle.columns.specs.Put.{written}
-use Rattle.printing.proofs.ListLines.{list-none, list-more, list-line}
-use Rattle.printing.proofs.put_list.Statement.{statement}
-use Rattle.printing.proofs.put_list.Tie as tie
+use Rattle.print_answers.proofs.ListLines.{list-none, list-more, list-line}
+use Rattle.print_answers.proofs.put_list.Statement.{statement}
+use Rattle.print_answers.proofs.put_list.Tie as tie
 
 abbrev Inv-loop : tie.InvT-loop
 Inv-loop out₀ at list i₀ out i =

@@ -1,8 +1,8 @@
--- `printing::print_cost` meets its contract.
+-- `print_answers::print_cost` meets its contract.
 use borrow.Author.Needs.{needs}
-use Rattle.printing.proofs.ListLines.{one-piece, cost-length}
-use Rattle.printing.proofs.print_cost.Statement.{statement}
-use Rattle.printing.proofs.print_cost.Tie as tie
+use Rattle.print_answers.proofs.ListLines.{one-piece, cost-length}
+use Rattle.print_answers.proofs.print_cost.Statement.{statement}
+use Rattle.print_answers.proofs.print_cost.Tie as tie
 
 put-cost-requires : tie.Need-put-cost-requires
 put-cost-requires c κs = search needs

@@ -1,10 +1,10 @@
--- `printing::print_list` meets its contract.
+-- `print_answers::print_list` meets its contract.
 use native.Mathlib.Omega.{arith}
 use borrow.Author.Needs.{needs}
 use Rattle.model.proofs.Pieces.{line-length}
-use Rattle.printing.proofs.ListLines.{one-piece}
-use Rattle.printing.proofs.print_list.Statement.{statement}
-use Rattle.printing.proofs.print_list.Tie as tie
+use Rattle.print_answers.proofs.ListLines.{one-piece}
+use Rattle.print_answers.proofs.print_list.Statement.{statement}
+use Rattle.print_answers.proofs.print_list.Tie as tie
 
 put-list-requires : tie.Need-put-list-requires
 put-list-requires c κs = search needs

@@ -14,8 +14,9 @@ use Rattle.model.proofs.Columns.{columns-length}
 use Rattle.model.proofs.Pieces.{Fitting, fitting-take, fields-length, fields-one, fields-append, line-length}
 use Rattle.columns.specs.Put.{written}
 use Rattle.columns.proofs.Puts.{written-nil}
-use Rattle.printing.specs.Printing.{printedCost, Prints}
+use Rattle.printing.specs.Printing.{Prints}
+use Rattle.print_answers.specs.Costs.{printedCost}
 use Rattle.printing.proofs.Pieces.{after, line-feed, amount-small, refusal-printed}
 
 module _ (old : List ℕ) (at : ℕ) (list : List ℕ) (f : Fitting list) (room : at + (14 * length list + 1) ≤ length old) where
   pub list-none : old ≡ written old at (fields 14 (take 0 list))

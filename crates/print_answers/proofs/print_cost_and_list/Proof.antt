@@ -1,10 +1,10 @@
--- `printing::print_cost_and_list` meets its contract.
+-- `print_answers::print_cost_and_list` meets its contract.
 use native.Mathlib.Omega.{arith}
 use borrow.Author.Needs.{needs}
 use Rattle.model.proofs.Pieces.{line-length}
-use Rattle.printing.proofs.ListLines.{two-pieces, cost-length}
-use Rattle.printing.proofs.print_cost_and_list.Statement.{statement}
-use Rattle.printing.proofs.print_cost_and_list.Tie as tie
+use Rattle.print_answers.proofs.ListLines.{two-pieces, cost-length}
+use Rattle.print_answers.proofs.print_cost_and_list.Statement.{statement}
+use Rattle.print_answers.proofs.print_cost_and_list.Tie as tie
 
 put-cost-requires : tie.Need-put-cost-requires
 put-cost-requires c κs = search needs

@@ -1,11 +1,11 @@
--- `printing::print_totals_and_list` meets its contract.
+-- `print_answers::print_totals_and_list` meets its contract.
 use native.Mathlib.Omega.{arith}
 use borrow.Author.Needs.{needs}
 use Rattle.model.proofs.Pieces.{line-length}
-use Rattle.printing.proofs.ListLines.{two-pieces}
+use Rattle.print_answers.proofs.ListLines.{two-pieces}
 use Rattle.printing.proofs.Pieces.{totals-length}
-use Rattle.printing.proofs.print_totals_and_list.Statement.{statement}
-use Rattle.printing.proofs.print_totals_and_list.Tie as tie
+use Rattle.print_answers.proofs.print_totals_and_list.Statement.{statement}
+use Rattle.print_answers.proofs.print_totals_and_list.Tie as tie
 
 put-totals-requires : tie.Need-put-totals-requires
 put-totals-requires c κs = search needs

@@ -1,8 +1,8 @@
--- `printing::put_cost` meets its contract.
+-- `print_answers::put_cost` meets its contract.
 use borrow.Author.Needs.{needs}
-use Rattle.printing.proofs.ListLines.{cost-line}
-use Rattle.printing.proofs.put_cost.Statement.{statement}
-use Rattle.printing.proofs.put_cost.Tie as tie
+use Rattle.print_answers.proofs.ListLines.{cost-line}
+use Rattle.print_answers.proofs.put_cost.Statement.{statement}
+use Rattle.print_answers.proofs.put_cost.Tie as tie
 
 to-whole-requires : tie.Need-to-whole-requires
 to-whole-requires c κs = search needs
