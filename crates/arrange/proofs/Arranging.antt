@@ -27,9 +27,10 @@ use Rattle.words.proofs.Plans.{placing-none}
 use Rattle.words.proofs.Visits.{count-fillings}
 use Rattle.words.proofs.Walks.{choose-visited, count-visited, count-small}
 use Rattle.gaps.specs.declared.Stand.{Stand}
-use Rattle.gaps.specs.Stands.{headOf, beforeOf, Closable, Opens}
-use Rattle.gaps.specs.Sets.{Gathers}
-use Rattle.gaps.specs.Here.{Surveyed, Ground}
+use Rattle.gaps.specs.Stands.{Closable, Opens}
+use Rattle.gaps.specs.Here.{Ground}
+use Rattle.survey.specs.Surveys.{headOf, beforeOf, Surveyed}
+use Rattle.survey.specs.Sets.{Gathers}
 use Rattle.gaps.proofs.Here.{plan-wide, plan-few, plan-lent, start-closable, here-start}
 use Rattle.choice.specs.declared.Score.{Score}
 use Rattle.choice.specs.Scores.{Kept, Walked}

@@ -174,7 +174,7 @@ fn begin(
     requires { ⌜ (0 < length (now regions)) × (length (now gaps) ≡ 12) × (length (now scratch) ≡ v + n) ⌝ }
     ensures { λ r. ⌜ Begun (now (legs .entry)) v n prices (now (plan .entry)) (now (regions .entry)) (now (gaps .exit)) r ⌝ }
 {
-    gaps::survey(legs, plan, v, n, regions, gaps);
+    survey::survey(legs, plan, v, n, regions, gaps);
     words::compose(plan, v, n, regions, &regions[..0], scratch);
     let driving = delivery::driving_cost(legs, v, n, prices, scratch);
     gaps::open(legs, gaps, 0, prices, driving)
@@ -208,7 +208,7 @@ fn visit(
         };
     }
     let stand = begin(legs, v, n, prices, plan, regions, gaps, scratch);
-    let left = gaps::drain(plan, v, n, regions);
+    let left = survey::drain(plan, v, n, regions);
     let score = Score {
         cost,
         placed: all,

@@ -24,10 +24,11 @@ use Rattle.words.specs.Words.{Word, code, inGap, Placing}
 use Rattle.words.specs.Gaps.{regionsOf, regionAt}
 use Rattle.words.proofs.Plans.{placed-same, placed-other, planOf-placed, length-planOf, placing-more, placed-planOf, once-planOf, below-planOf}
 use Rattle.words.proofs.Gaps.{region-at, stretch-at, route-of-region}
+use Rattle.survey.specs.Surveys.{beforeOf, headOf}
 use Rattle.gaps.specs.declared.Stand.{Stand}
-use Rattle.gaps.specs.Stands.{beforeOf, headOf, closed, vacant, Closable, Closes, Opens, Steps}
+use Rattle.gaps.specs.Stands.{closed, vacant, Closable, Closes, Opens, Steps}
 use Rattle.gaps.specs.Here.{Ground, planAt, wayOf, upTo, Here}
-use Rattle.gaps.proofs.Ways.{last-near, way-on}
+use Rattle.survey.proofs.Ways.{last-near, way-on}
 use Rattle.gaps.proofs.Driving.{table-change, route-le}
 
 module _ (t : List ℕ) (v n : ℕ) (p : Prices) (xs regions gaps : List ℕ) (G : Ground t v n p xs regions gaps) where

@@ -11,8 +11,9 @@ use Rattle.model.specs.Legs.{legAt}
 use Rattle.model.specs.Cost.{price}
 use Rattle.whole.proofs.Laws.{zero-whole, sub-whole}
 use Rattle.delivery.proofs.Laws.{sum-exact}
+use Rattle.survey.specs.Surveys.{afterOf, restOf}
 use Rattle.gaps.specs.declared.Stand.{Stand}
-use Rattle.gaps.specs.Stands.{afterOf, restOf, closed, Closes}
+use Rattle.gaps.specs.Stands.{closed, Closes}
 
 module _ (t gaps : List ℕ) (q : ℕ) (p : Prices) where
   pub closes-is : (st : Stand) (d : ℕ) (c : Float) → d ≡ legAt t (st .last) (afterOf gaps q) → c ≡ whole (price p (st .length + d + restOf gaps q))

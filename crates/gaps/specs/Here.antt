@@ -2,7 +2,7 @@
 use mathlib.Core.Path.{_≡_}
 use Prim.Native.Nat.{ℕ, _+_, _*_, _≤_, _<_}
 use mathlib.Core.List.{List, [], _++_}
-use lib.ListN.{length, getD, take}
+use lib.ListN.{length, take}
 use Rattle.model.specs.declared.Prices.{Prices}
 use Rattle.model.specs.Whole.{whole}
 use Rattle.model.specs.Plan.{Plan, Route, routeOf, decode}
@@ -12,28 +12,8 @@ use Rattle.distance.specs.Ways.{tableLegs, walked, lastPlace}
 use Rattle.delivery.specs.Costs.{tableDriving}
 use Rattle.words.specs.Words.{Word, inGap, planOf, Placing}
 use Rattle.words.specs.Gaps.{regionsOf, regionAt, Gapped}
-use Rattle.gaps.specs.declared.Gap.{Gap}
+use Rattle.survey.specs.Surveys.{Surveyed}
 use Rattle.gaps.specs.declared.Stand.{Stand}
-use Rattle.gaps.specs.Ways.{Measured}
-use Rattle.gaps.specs.Stands.{beforeOf, afterOf, headOf, restOf}
-
--- the four numbers that are lent of gap q
-abbrev pub gapAt : List ℕ → ℕ → Gap
-gapAt gaps q = record { before = beforeOf gaps q; after = afterOf gaps q; head = headOf gaps q; rest = restOf gaps q }
-
--- the four numbers of gap q were written, and those of the gaps before it stay
-pub record Stored (gaps : List ℕ) (q : ℕ) (g : Gap) (after : List ℕ) : Type 0 where
-  pub here : gapAt after q ≡ g
-  pub before : (i : ℕ) → i < 4 * q → getD after i 0 ≡ getD gaps i 0
-
--- the numbers of gap q are right
-abbrev pub Surveyed-at : List ℕ → ℕ → List ℕ → List ℕ → List ℕ → ℕ → Type 0
-Surveyed-at t v xs regions gaps q =
-    let g = regionAt regions q in Measured t (g .vehicle) (routeOf (decode v xs) (g .vehicle)) (g .from) (g .to) (gapAt gaps q)
-
--- and those of all gaps
-abbrev pub Surveyed : List ℕ → ℕ → List ℕ → List ℕ → List ℕ → Type 0
-Surveyed t v xs regions gaps = (q : ℕ) → q < length (regionsOf regions) → Surveyed-at t v xs regions gaps q
 
 -- the gaps of a plan at its regions, measured over a leg table
 pub record Ground (t : List ℕ) (v n : ℕ) (p : Prices) (xs regions gaps : List ℕ) : Type 0 where

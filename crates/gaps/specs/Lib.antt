@@ -1,5 +1,3 @@
 -- What the contracts of this crate and of the walk cite beside the definitions of `model`.
-pub mod Ways
 pub mod Stands
 pub mod Here
-pub mod Sets

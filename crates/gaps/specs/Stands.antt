@@ -2,26 +2,14 @@
 use mathlib.Core.Path.{_≡_}
 use Prim.Native.Nat.{ℕ, _+_, _-_, _*_, _≤_, _<_}
 use mathlib.Core.List.{List}
-use lib.ListN.{length, getD}
+use lib.ListN.{length}
 use lib.Ieee.{Float}
 use Rattle.model.specs.declared.Prices.{Prices}
 use Rattle.model.specs.Whole.{exact, whole}
 use Rattle.model.specs.Legs.{legAt, LegTable, Affordable}
 use Rattle.model.specs.Cost.{price}
+use Rattle.survey.specs.Surveys.{beforeOf, afterOf, headOf, restOf}
 use Rattle.gaps.specs.declared.Stand.{Stand}
-
--- The four numbers that are lent of gap q: the places before and after it, the way to the one and the way on from the other.
-abbrev pub beforeOf : List ℕ → ℕ → ℕ
-beforeOf gaps q = getD gaps (4 * q) 0
-
-abbrev pub afterOf : List ℕ → ℕ → ℕ
-afterOf gaps q = getD gaps (4 * q + 1) 0
-
-abbrev pub headOf : List ℕ → ℕ → ℕ
-headOf gaps q = getD gaps (4 * q + 2) 0
-
-abbrev pub restOf : List ℕ → ℕ → ℕ
-restOf gaps q = getD gaps (4 * q + 3) 0
 
 -- the length of the route of gap q where nothing comes after the last place in it
 abbrev pub closed : List ℕ → List ℕ → ℕ → ℕ → ℕ → ℕ

@@ -16,7 +16,8 @@ use Rattle.words.specs.Words.{Word, inGap, plansFrom, plansAt, plansOn}
 use Rattle.words.specs.Gaps.{regionsOf}
 use Rattle.words.proofs.Walks.{plans-first, plans-gap, plans-end}
 use Rattle.gaps.specs.declared.Stand.{Stand}
-use Rattle.gaps.specs.Stands.{headOf, beforeOf, Closable, Resumes}
+use Rattle.survey.specs.Surveys.{headOf, beforeOf}
+use Rattle.gaps.specs.Stands.{Closable, Resumes}
 use Rattle.gaps.specs.Here.{planAt, Here}
 use Rattle.gaps.proofs.Here.{start-closable, here-start}
 use Rattle.choice.specs.declared.Score.{Score}

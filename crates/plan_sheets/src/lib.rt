@@ -27,7 +27,7 @@ pub fn weigh(
 {
     match planner::weigh(vehicles, stops, locations, distances, prices, plan) {
         Weighed::Refused(number) => printing::print_refusal(number, out),
-        Weighed::Cost(c) => printing::print_cost(c, out),
+        Weighed::Cost(c) => print_answers::print_cost(c, out),
     }
 }
 
@@ -48,6 +48,6 @@ pub fn start_plan(
 {
     match planner::start_plan(vehicles, stops, locations, distances, plan) {
         Written::Refused(number) => printing::print_refusal(number, out),
-        Written::Done => printing::print_list(plan, out),
+        Written::Done => print_answers::print_list(plan, out),
     }
 }

@@ -3,7 +3,6 @@ use mathlib.Core.Path.{_≡_}
 use Prim.Native.Nat.{ℕ, _+_, _≤_}
 use mathlib.Core.Bool.{cond}
 use mathlib.Core.List.{List, [], _∷_}
-use lib.Ieee.{Float}
 use lib.ListN.{length}
 use Rattle.model.specs.declared.Totals.{Totals}
 use Rattle.model.specs.Lists.{forEach, upFrom}
@@ -23,10 +22,6 @@ printedStops P n = forEach (upFrom 0 n) (printedStop P)
 -- the line of five numbers
 unfoldable pub printedTotals : Totals → List ℕ
 printedTotals t = line 20 (amount (t .start) ∷ amount (t .end) ∷ t .rounds ∷ t .improving ∷ cond (t .settled) 1 0 ∷ [])
-
--- the line of a cost
-unfoldable pub printedCost : Float → List ℕ
-printedCost c = line 20 (amount c ∷ [])
 
 -- the costs of an answer are whole numbers
 abbrev pub Priced : Totals → Type 0

@@ -39,6 +39,6 @@ pub fn solve(
         plan,
     ) {
         Solved::Refused(number) => printing::print_refusal(number, out),
-        Solved::Ran(t) => printing::print_totals_and_list(t, plan, out),
+        Solved::Ran(t) => print_answers::print_totals_and_list(t, plan, out),
     }
 }

@@ -12,7 +12,8 @@ use Rattle.model.specs.declared.Solved.{Solved}
 use Rattle.model.specs.declared.Solved.the-variants as S
 use Rattle.model.specs.Whole.{IsWhole}
 use Rattle.model.specs.File.{line, printedRefusal}
-use Rattle.printing.specs.Printing.{printedCost, printedTotals}
+use Rattle.printing.specs.Printing.{printedTotals}
+use Rattle.print_answers.specs.Costs.{printedCost}
 
 -- of weigh: the cost
 abbrev pub printedWeight : Weighed → List ℕ

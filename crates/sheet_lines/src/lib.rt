@@ -11,6 +11,6 @@ pub fn print_weighed(answer: Weighed, plan: &[u32], out: &mut [u8]) -> usize
 {
     match answer {
         Weighed::Refused(number) => printing::print_refusal(number, out),
-        Weighed::Cost(c) => printing::print_cost_and_list(c, plan, out),
+        Weighed::Cost(c) => print_answers::print_cost_and_list(c, plan, out),
     }
 }

@@ -1,6 +1,6 @@
 -- `gaps::open` meets its contract.
 use mathlib.Core.Path.{refl}
-use Rattle.gaps.specs.Stands.{headOf, beforeOf}
+use Rattle.survey.specs.Surveys.{headOf, beforeOf}
 use Rattle.gaps.proofs.Stands.{opens-is}
 use borrow.Author.Needs.{needs}
 use Rattle.gaps.proofs.open.Statement.{statement}
