@@ -1,4 +1,3 @@
-pub mod Laws
 pub mod Choice
 pub mod InPlace
 pub mod OnRoute

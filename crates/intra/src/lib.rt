@@ -5,31 +5,10 @@ ghost use lib.ListN.{length};
 ghost use Rattle.model.specs.Job.{Job};
 ghost use Rattle.model.specs.Plan.{encode, decode, Lent};
 ghost use Rattle.model.specs.Legs.{Fits};
-ghost use Rattle.model.specs.TwoOpt.{endsExchanged, inverted, intra};
-ghost use Rattle.pasting.specs.Put.{put};
+ghost use Rattle.model.specs.TwoOpt.{intra};
 ghost use Rattle.delivery.specs.Costs.{Ready};
 ghost use Rattle.intra.specs.Reordered.{reordered, Weighable, Weighs, OneRoute};
 use model::Prices;
-
-// Writes r[j..] reversed, r[i+1..j], r[..i+1] reversed to the front of `out`.
-pub fn ends_exchanged(route: &[u32], i: usize, j: usize, out: &mut [u32])
-    requires { ⌜ (i < j) × (j < length (now route)) × (length (now route) ≤ length (now out)) ⌝ }
-    ensures { λ _. ⌜ now (out .exit) ≡ put (now (out .entry)) 0 (endsExchanged i j (now (route .entry))) ⌝ }
-{
-    let a = pasting::paste_reversed(out, 0, &route[j..]);
-    let b = pasting::paste(out, a, &route[i + 1..j]);
-    pasting::paste_reversed(out, b, &route[0..i + 1]);
-}
-
-// Writes the inversion of Croes 1958, r[..i+1], r[i+1..j] reversed, r[j..], to the front of `out`.
-pub fn inverted(route: &[u32], i: usize, j: usize, out: &mut [u32])
-    requires { ⌜ (i < j) × (j < length (now route)) × (length (now route) ≤ length (now out)) ⌝ }
-    ensures { λ _. ⌜ now (out .exit) ≡ put (now (out .entry)) 0 (inverted i j (now (route .entry))) ⌝ }
-{
-    let a = pasting::paste(out, 0, &route[0..i + 1]);
-    let b = pasting::paste_reversed(out, a, &route[i + 1..j]);
-    pasting::paste(out, b, &route[j..]);
-}
 
 // What a route costs on a vehicle.
 fn weigh(legs: &[u32], prices: Prices, vehicle: usize, route: &[u32]) -> f64
@@ -49,8 +28,8 @@ fn reorder(legs: &[u32], prices: Prices, vehicle: usize, route: &mut [u32], i: u
     let mut first = [0u32; 64];
     let mut second = [0u32; 64];
     let m = route.len();
-    ends_exchanged(route, i, j, &mut first);
-    inverted(route, i, j, &mut second);
+    inversions::ends_exchanged(route, i, j, &mut first);
+    inversions::inverted(route, i, j, &mut second);
     let a = weigh(legs, prices, vehicle, &first[0..m]);
     let b = weigh(legs, prices, vehicle, &second[0..m]);
     let old = weigh(legs, prices, vehicle, route);

@@ -1,8 +1,8 @@
--- `intra::inverted` meets its contract. Assumes nothing.
-use Rattle.intra.proofs.Laws.{inverted-written}
+-- `inversions::inverted` meets its contract. Assumes nothing.
+use Rattle.inversions.proofs.Laws.{inverted-written}
 use borrow.Author.Needs.{needs}
-use Rattle.intra.proofs.inverted.Statement.{statement}
-use Rattle.intra.proofs.inverted.Tie as tie
+use Rattle.inversions.proofs.inverted.Statement.{statement}
+use Rattle.inversions.proofs.inverted.Tie as tie
 
 add-paste : tie.Need-add-paste
 add-paste c = search needs

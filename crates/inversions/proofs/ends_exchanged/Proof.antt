@@ -1,8 +1,8 @@
--- `intra::ends_exchanged` meets its contract. Assumes nothing.
-use Rattle.intra.proofs.Laws.{ends-written}
+-- `inversions::ends_exchanged` meets its contract. Assumes nothing.
+use Rattle.inversions.proofs.Laws.{ends-written}
 use borrow.Author.Needs.{needs}
-use Rattle.intra.proofs.ends_exchanged.Statement.{statement}
-use Rattle.intra.proofs.ends_exchanged.Tie as tie
+use Rattle.inversions.proofs.ends_exchanged.Statement.{statement}
+use Rattle.inversions.proofs.ends_exchanged.Tie as tie
 
 mul-paste-reversed : tie.Need-mul-paste-reversed
 mul-paste-reversed c = search needs
