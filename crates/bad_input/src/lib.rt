@@ -116,7 +116,7 @@ pub fn bad_given(n: usize, given: &[u32]) -> bool
     if 2 < given.len() {
         return true;
     }
-    !solution::stops_once(given, n)
+    !plan_form::stops_once(given, n)
 }
 
 pub fn too_large(v: usize, n: usize) -> bool

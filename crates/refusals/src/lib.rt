@@ -92,7 +92,7 @@ pub fn of_weigh(
     if job != 0 {
         return job;
     }
-    if solution::is_plan(plan, vehicles.len() / 2, stops.len()) {
+    if plan_form::is_plan(plan, vehicles.len() / 2, stops.len()) {
         0
     } else {
         11

@@ -1,5 +1,4 @@
 pub mod Walks
-pub mod Seen
-pub mod Form
+pub mod Used
 pub mod Sets
 pub mod Locate

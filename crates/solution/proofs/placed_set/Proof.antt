@@ -1,5 +1,5 @@
 -- `solution::placed_set` meets its contract. Assumes nothing.
-use Rattle.solution.proofs.Form.{used-stops}
+use Rattle.solution.proofs.Used.{used-stops}
 use native.Mathlib.Omega.{arith}
 use Rattle.solution.proofs.placed_set.Statement.{statement}
 use Rattle.solution.proofs.placed_set.Tie as tie

@@ -1,9 +1,9 @@
--- `solution::is_plan` meets its contract. Assumes nothing.
+-- `plan_form::is_plan` meets its contract. Assumes nothing.
 use mathlib.Core.Path.{sym, _∙_}
-use Rattle.solution.proofs.Form.{too-long, first-holds, first-fails}
+use Rattle.plan_form.proofs.Form.{too-long, first-holds, first-fails}
 use native.Mathlib.Omega.{arith}
-use Rattle.solution.proofs.is_plan.Statement.{statement}
-use Rattle.solution.proofs.is_plan.Tie as tie
+use Rattle.plan_form.proofs.is_plan.Statement.{statement}
+use Rattle.plan_form.proofs.is_plan.Tie as tie
 
 sum-lengths-requires : tie.Need-sum-lengths-requires
 sum-lengths-requires c κs = omega arith

@@ -1,13 +1,13 @@
--- `solution::stops_once` meets its contract. Assumes nothing.
+-- `plan_form::stops_once` meets its contract. Assumes nothing.
 use Prim.Native.Nat.{_-_, _≤_}
 use mathlib.Core.Path.{_≡_, sym, _∙_}
 use mathlib.Core.Bool.{_&&_}
 use lib.ListN.{length, drop}
 use Rattle.model.specs.Lists.{allBelow, allOnce}
-use Rattle.solution.proofs.Seen.{good, good-start, good-beyond, good-twice, good-more, good-end}
+use Rattle.plan_form.proofs.Seen.{good, good-start, good-beyond, good-twice, good-more, good-end}
 use native.Mathlib.Omega.{arith}
-use Rattle.solution.proofs.stops_once.Statement.{statement}
-use Rattle.solution.proofs.stops_once.Tie as tie
+use Rattle.plan_form.proofs.stops_once.Statement.{statement}
+use Rattle.plan_form.proofs.stops_once.Tie as tie
 
 abbrev Inv-loop : tie.InvT-loop
 Inv-loop part n seen₀ i₀ seen i = (i ≤ length part) × ((allBelow n part && allOnce part) ≡ good n seen (drop i part))

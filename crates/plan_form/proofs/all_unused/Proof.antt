@@ -1,12 +1,12 @@
--- `solution::all_unused` meets its contract. Assumes nothing.
+-- `plan_form::all_unused` meets its contract. Assumes nothing.
 use Prim.Native.Nat.{_-_, _≤_}
 use mathlib.Core.Path.{_≡_, refl, sym, _∙_}
 use lib.ListN.{length, drop}
 use Rattle.model.specs.Plan.{unused}
 use Rattle.solution.proofs.Walks.{all, all-more, all-not, all-end}
 use native.Mathlib.Omega.{arith}
-use Rattle.solution.proofs.all_unused.Statement.{statement}
-use Rattle.solution.proofs.all_unused.Tie as tie
+use Rattle.plan_form.proofs.all_unused.Statement.{statement}
+use Rattle.plan_form.proofs.all_unused.Tie as tie
 
 abbrev Inv-loop : tie.InvT-loop
 Inv-loop part i₀ i = (i ≤ length part) × (all unused part ≡ all unused (drop i part))

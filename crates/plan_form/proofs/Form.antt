@@ -1,26 +1,17 @@
 -- The test of the plan form, in the order in which the code goes. Assumes nothing.
 use Prim.Native.Nat.{ℕ, _+_, _-_, _<_, _≤_}
 use native.Mathlib.Omega.{arith}
-use native.Mathlib.Nat.{add-sub-cancel-left}
-use mathlib.Core.Path.{_≡_, refl, sym, _∙_}
+use mathlib.Core.Path.{_≡_, refl, _∙_}
 use mathlib.Core.Bool.{Bool, true, false, _&&_}
 use mathlib.Core.List.{List}
 use lib.ListN.{length, take, drop, replicate, length-drop}
 use lib.Seq.{drop-drop}
 use borrow.Author.Tests.{le-leb, lt-leb}
-use Rattle.model.specs.Lists.{sum, concat, same, allBelow, allOnce, part}
-use Rattle.model.specs.Plan.{decode, unused, usedPart, unusedPart, isPlan}
+use Rattle.model.specs.Lists.{sum, same, allBelow, allOnce, part}
+use Rattle.model.specs.Plan.{unused, usedPart, unusedPart, isPlan}
 use Rattle.model.proofs.Lists.{part-end}
-use Rattle.model.proofs.PlanForm.{concat-decode}
 use Rattle.solution.proofs.Walks.{all}
-
--- the used places, as the code cuts them out
-used-part : (v mid : ℕ) (xs : List ℕ) → mid ≡ v + sum (take v xs) → part v mid xs ≡ usedPart v xs
-used-part v mid xs e = rw (e, add-sub-cancel-left)
-
--- they hold the stops of all routes
-pub used-stops : (v mid : ℕ) (xs : List ℕ) → mid ≡ v + sum (take v xs) → part v mid xs ≡ concat (decode v xs)
-used-stops v mid xs e = used-part v mid xs e ∙ sym (concat-decode v xs)
+use Rattle.solution.proofs.Used.{used-part}
 
 module _ (v n : ℕ) (xs : List ℕ) where
   -- too many stops
