@@ -6,7 +6,7 @@
  * - A call that is refused leaves every buffer and every result as it was.
  * - A call that is accepted leaves in the plan and in its results what the definitions say, and nothing elsewhere.
  * - It ends, on every input.
- * It takes no memory but the stack, of which it used 48 KiB on large jobs (examples/hosts/c/stack.c measures it; it is not proved).
+ * It takes no memory but the stack, of which it used 49 KiB on large jobs (examples/hosts/c/stack.c measures it; it is not proved).
  *
  * What the host owes, since nothing can test it from inside: a pointer is not null (also where its length is 0) and is
  * aligned for its type; a list's length is how many numbers lie behind its pointer; what is written (a plan that is not
