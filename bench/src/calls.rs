@@ -44,24 +44,14 @@ fn call(sheet: &Sheet, plan: &mut [u32]) -> Answer<String> {
 #[cfg(test)]
 mod tests {
     use super::*;
-    use sheet::Job;
+    use sheet::job_a;
 
     fn sheet(call: Call) -> Sheet {
         Sheet {
             call,
             given: vec![0, 1],
             plan: vec![2, 0, 1],
-            job: Job {
-                vehicles: vec![[0, 0]],
-                stops: vec![1, 2],
-                distances: vec![vec![0, 2, 3], vec![2, 0, 9], vec![9, 1, 0]],
-                linear: 1,
-                quadratic: 0,
-                missed: 100,
-                smoothing: 1,
-                limit: 50,
-                draws: vec![0],
-            },
+            job: job_a(),
         }
     }
 

@@ -8,6 +8,7 @@ use lib.Seq.{take-all}
 use Rattle.input.specs.declared.Filled.{Filled}
 use Rattle.input.specs.declared.Filled.the-variants as F
 use Rattle.input.specs.Filling.{Refilled}
+use Rattle.call_sheet.specs.Sheets.{longestSheet}
 use Rattle.call_sheet.specs.declared.SheetRead.{SheetRead}
 use Rattle.call_sheet.specs.declared.SheetRead.the-variants as R
 use Rattle.call_sheet.specs.Running.{Answered, NoSheet, AnswersSheet}
@@ -17,13 +18,14 @@ use Rattle.calls.specs.Rest.{Within, Still, Keeps}
 
 -- a full buffer that was read on
 pub read-on : (at end n : ℕ) (old new : List ℕ) (a : Filled) → Refilled at old new a → a ≡ F.Bytes n → at ≤ end → end ≡ length old
-    → Still at end old new 0 n
-read-on at end n old new a f e l w =
+    → longestSheet ≤ length old → Still at end old new 0 n
+read-on at end n old new a f e l w big =
     let k : Refilled at old new (F.Bytes n) = rw e at f in
     record {
       order = omega arith;
       within = k .1;
       more = omega (arith, k .0);
+      uncut = λ j. omega arith;
       same = rw w (k .2 ∙ sym (take-all (length old - at) (drop at old) (omega (arith, length-drop at old))));
     }
 

@@ -3,6 +3,7 @@ use mathlib.Core.Path.{_≡_}
 use Prim.Native.Nat.{ℕ, _-_, _≤_}
 use mathlib.Core.List.{List}
 use lib.ListN.{length, take, drop}
+use Rattle.call_sheet.specs.Sheets.{longestSheet}
 use Rattle.calls.specs.declared.Left.{Left}
 use Rattle.calls.specs.declared.Left.the-variants.{Bytes, Nothing}
 
@@ -10,11 +11,13 @@ use Rattle.calls.specs.declared.Left.the-variants.{Bytes, Nothing}
 pub record Within (n : ℕ) (a : Left) : Type 0 where
   pub bounds : (at end : ℕ) → a ≡ Bytes at end → (at ≤ end) × (end ≤ n)
 
--- the bytes that were left are still there, and others may stand after them
+-- The bytes that were left are still there, and others may stand after them. A buffer that is full to its end holds as many bytes as a sheet may
+-- have, so no sheet is cut off by the buffer.
 pub record Still (at end : ℕ) (old new : List ℕ) (from to : ℕ) : Type 0 where
   pub order : from ≤ to
   pub within : to ≤ length old
   pub more : end - at ≤ to - from
+  pub uncut : to ≡ length old → longestSheet ≤ to - from
   pub same : take (end - at) (drop from new) ≡ take (end - at) (drop at old)
 
 abbrev pub Keeps : ℕ → ℕ → List ℕ → List ℕ → Left → Type 0

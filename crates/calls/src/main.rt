@@ -5,6 +5,7 @@ use libc::STDIN_FILENO;
 use libc::STDOUT_FILENO;
 ghost use Prim.Native.Nat.{_≤_};
 ghost use lib.ListN.{length};
+ghost use Rattle.call_sheet.specs.Sheets.{longestSheet};
 ghost use Rattle.calls.specs.Rest.{Within, Keeps};
 
 // The most bytes that a sheet has: 15, 113, 1,345, and 106,592 of its job file. Where so many are left, nothing after them matters.
@@ -18,7 +19,7 @@ enum Left {
 
 // Reads on where fewer bytes are left than a sheet may have. A buffer that is not full holds the end of the input.
 fn more(bytes: &mut [u8], at: usize, end: usize) -> Left
-    requires { ⌜ (at ≤ end) × (end ≤ length (now bytes)) ⌝ }
+    requires { ⌜ (at ≤ end) × (end ≤ length (now bytes)) × (longestSheet ≤ length (now bytes)) ⌝ }
     ensures { λ r. ⌜ Keeps at end (now (bytes .entry)) (now (bytes .exit)) r ⌝ }
 {
     if end < bytes.len() {
@@ -57,7 +58,7 @@ fn answer(bytes: &[u8], at: usize) -> Left
 
 // One sheet, with what is read for it.
 fn turn(bytes: &mut [u8], at: usize, end: usize) -> Left
-    requires { ⌜ (at ≤ end) × (end ≤ length (now bytes)) ⌝ }
+    requires { ⌜ (at ≤ end) × (end ≤ length (now bytes)) × (longestSheet ≤ length (now bytes)) ⌝ }
     ensures { λ r. ⌜ Within (length (now (bytes .entry))) r ⌝ }
 {
     let Left::Bytes(from, to) = more(bytes, at, end) else {
@@ -71,7 +72,9 @@ fn turn(bytes: &mut [u8], at: usize, end: usize) -> Left
 
 // Answers sheet after sheet. A proved loop has to end, and nothing says that the input does: so the loop counts its turns down,
 // from a number that no run uses up.
-fn answer_all(bytes: &mut [u8]) {
+fn answer_all(bytes: &mut [u8])
+    requires { ⌜ longestSheet ≤ length (now bytes) ⌝ }
+{
     // nothing is left of a full buffer, so that the first turn reads
     let mut at = bytes.len();
     let mut end = bytes.len();

@@ -55,7 +55,3 @@ pub refilled : (from : ℕ) (old kept new : List ℕ) (n : ℕ) → Kept from ol
 refilled from old kept new n k (Bytes x) f =
     (omega (arith, f .0, k .count), omega (arith, f .1, k .long), ap (λ y. take y new) (sym (k .count)) ∙ f .2 ∙ k .front)
 refilled from old kept new n k Failed f = ap (λ y. take y new) (sym (k .count)) ∙ f ∙ k .front
-
--- how far it is filled
-pub refilled-within : (from : ℕ) (old new : List ℕ) (a : Filled) → Refilled from old new a → (n : ℕ) → a ≡ Bytes n → n ≤ length old
-refilled-within from old new a f n e = let k : Refilled from old new (Bytes n) = rw e at f in k .1

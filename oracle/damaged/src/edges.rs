@@ -1,10 +1,10 @@
 //! Files that have the form: each is at a limit or one beyond it.
 
 use crate::{
-    text::{job_a, with_number, COUNT, DRAW, FIRST, ROW, STOP, VEHICLE},
+    text::{with_number, COUNT, DRAW, FIRST, ROW, STOP, VEHICLE},
     Named,
 };
-use sheet::{write_job, Job};
+use sheet::{job_a, write_job, Job};
 
 /// Where the numbers of the first line stand.
 const LINEAR: usize = 3;

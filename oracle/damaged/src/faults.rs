@@ -1,10 +1,10 @@
 //! Files that have not the form: each is Job A's with one fault, and refused as 14.
 
 use crate::{
-    text::{job_a, lines, with_field, with_line, COUNT, DRAW, FIRST, ROW, STOP, VEHICLE},
+    text::{lines, with_field, with_line, COUNT, DRAW, FIRST, ROW, STOP, VEHICLE},
     Named,
 };
-use sheet::write_job;
+use sheet::{job_a, write_job};
 
 /// A line of each sort, the place of its last number, and what to call it.
 const SORTS: [(usize, usize, &str); 6] = [

@@ -1,6 +1,6 @@
-use sheet::{write_job, Job};
+use sheet::{job_a, write_job};
 
-/// The lines of Job A's file.
+/// Where the lines of Job A's file are.
 pub const FIRST: usize = 0;
 pub const VEHICLE: usize = 1;
 pub const STOP: usize = 3;
@@ -8,22 +8,7 @@ pub const ROW: usize = 5;
 pub const COUNT: usize = 7;
 pub const DRAW: usize = 8;
 
-/// Job A, the specification's own.
-pub fn job_a() -> Job {
-    Job {
-        vehicles: vec![[0, 0]],
-        stops: vec![1, 2],
-        distances: vec![vec![0, 2, 3], vec![2, 0, 9], vec![9, 1, 0]],
-        linear: 1,
-        quadratic: 0,
-        missed: 100,
-        smoothing: 1,
-        limit: 50,
-        draws: vec![0],
-    }
-}
-
-/// Its file's lines, each with its line feed.
+/// The lines of Job A's file, each with its line feed.
 pub fn lines() -> Vec<String> {
     write_job(&job_a())
         .split_inclusive('\n')

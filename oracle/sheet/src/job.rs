@@ -68,3 +68,18 @@ pub struct Sheet {
     pub plan: Vec<u32>,
     pub job: Job,
 }
+
+/// Job A, the specification's own.
+pub fn job_a() -> Job {
+    Job {
+        vehicles: vec![[0, 0]],
+        stops: vec![1, 2],
+        distances: vec![vec![0, 2, 3], vec![2, 0, 9], vec![9, 1, 0]],
+        linear: 1,
+        quadratic: 0,
+        missed: 100,
+        smoothing: 1,
+        limit: 50,
+        draws: vec![0],
+    }
+}

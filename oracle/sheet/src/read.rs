@@ -176,21 +176,7 @@ fn limited(number: u64, min: u64, max: u64) -> Result<usize, Malformed> {
 #[cfg(test)]
 mod tests {
     use super::*;
-    use crate::{write_job, write_sheet};
-
-    fn job() -> Job {
-        Job {
-            vehicles: vec![[0, 0]],
-            stops: vec![1, 2],
-            distances: vec![vec![0, 2, 3], vec![2, 0, 9], vec![9, 1, 0]],
-            linear: 1,
-            quadratic: 0,
-            missed: 100,
-            smoothing: 1,
-            limit: 50,
-            draws: vec![0],
-        }
-    }
+    use crate::{job_a, write_job, write_sheet};
 
     fn reads(text: &str) -> bool {
         matches!(read_job(text.as_bytes()), Ok((_, [])))
@@ -198,7 +184,7 @@ mod tests {
 
     #[test]
     fn reads_what_is_written() {
-        let mut job = job();
+        let mut job = job_a();
 
         assert_eq!(
             read_job(write_job(&job).as_bytes()),
@@ -233,7 +219,7 @@ mod tests {
                 } else {
                     vec![]
                 },
-                job: job(),
+                job: job_a(),
             };
 
             assert_eq!(
@@ -247,7 +233,7 @@ mod tests {
                 call: Call::Rebuild,
                 given: vec![7; count],
                 plan: vec![1; 12 * count],
-                job: job(),
+                job: job_a(),
             };
 
             assert_eq!(
@@ -259,14 +245,14 @@ mod tests {
 
     #[test]
     fn leaves_what_follows() {
-        let text = write_job(&job()) + "x";
+        let text = write_job(&job_a()) + "x";
 
-        assert_eq!(read_job(text.as_bytes()), Ok((job(), &b"x"[..])));
+        assert_eq!(read_job(text.as_bytes()), Ok((job_a(), &b"x"[..])));
     }
 
     #[test]
     fn refuses_damaged_files() {
-        let text = write_job(&job());
+        let text = write_job(&job_a());
 
         assert!(reads(&text));
         assert!(!reads(""));

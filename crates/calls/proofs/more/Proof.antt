@@ -42,7 +42,7 @@ returns-4 : tie.Need-returns-4
 returns-4 c =
     let s = c .before .before .before .before .before .before .before .before .before .before in
     let f = c .before .before .before .before .before .refill in
-    read-on (s .args .at) (s .args .end) _ (s .args .bytes .now) _ (f .result) (f .ensures) (c .before .n .given .1) (s .pre .0) (omega arith)
+    read-on (s .args .at) (s .args .end) _ (s .args .bytes .now) _ (f .result) (f .ensures) (c .before .n .given .1) (s .pre .0) (omega arith) (s .pre .2)
 
 pub more-spec : {M : Type 1} → statement M
 more-spec =
