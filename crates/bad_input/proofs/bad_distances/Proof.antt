@@ -1,4 +1,4 @@
--- `refusals::bad_distances` meets its contract. Assumes nothing.
+-- `bad_input::bad_distances` meets its contract. Assumes nothing.
 use Rattle.model.specs.Refusals.{badDistances}
 use borrow.Author.Needs.{needs}
 use Rattle.bad_input.proofs.bad_distances.Statement.{statement}

@@ -1,4 +1,4 @@
--- `refusals::bad_draws` meets its contract. Assumes nothing.
+-- `bad_input::bad_draws` meets its contract. Assumes nothing.
 use lib.ListN.{length}
 use borrow.Author.Tests.{lt-leb, le-leb}
 use Rattle.model.specs.Refusals.{badDraws}

@@ -1,4 +1,4 @@
--- `refusals::bad_given` meets its contract. Assumes nothing.
+-- `bad_input::bad_given` meets its contract. Assumes nothing.
 use mathlib.Core.Path.{_∙_, ap}
 use mathlib.Core.Bool.{not}
 use Rattle.bad_input.proofs.Laws.{no-stop, over-two, one-or-two}

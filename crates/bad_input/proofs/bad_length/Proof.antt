@@ -1,4 +1,4 @@
--- `refusals::bad_length` meets its contract. Assumes nothing.
+-- `bad_input::bad_length` meets its contract. Assumes nothing.
 use mathlib.Core.Path.{refl}
 use borrow.Author.Needs.{needs}
 use Rattle.model.specs.Refusals.{badLength}

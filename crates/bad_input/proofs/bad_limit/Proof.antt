@@ -1,4 +1,4 @@
--- `refusals::bad_limit` meets its contract. Assumes nothing.
+-- `bad_input::bad_limit` meets its contract. Assumes nothing.
 use borrow.Author.Tests.{lt-leb, le-leb}
 use Rattle.model.specs.Refusals.{badLimit}
 use Rattle.bad_input.proofs.Laws.{over}

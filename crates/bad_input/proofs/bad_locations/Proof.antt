@@ -1,4 +1,4 @@
--- `refusals::bad_locations` meets its contract. Assumes nothing.
+-- `bad_input::bad_locations` meets its contract. Assumes nothing.
 use Rattle.model.specs.Refusals.{badLocations}
 use Rattle.bad_input.proofs.Laws.{said}
 use borrow.Author.Needs.{needs}

@@ -1,4 +1,4 @@
--- `refusals::bad_prices` meets its contract. Assumes nothing.
+-- `bad_input::bad_prices` meets its contract. Assumes nothing.
 use borrow.Author.Tests.{lt-ltb, le-ltb}
 use Rattle.model.specs.Refusals.{badPrices}
 use Rattle.bad_input.proofs.bad_prices.Statement.{statement}

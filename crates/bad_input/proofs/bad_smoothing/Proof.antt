@@ -1,4 +1,4 @@
--- `refusals::bad_smoothing` meets its contract. Assumes nothing.
+-- `bad_input::bad_smoothing` meets its contract. Assumes nothing.
 use borrow.Author.Tests.{lt-leb, le-leb}
 use Rattle.model.specs.Refusals.{badSmoothing}
 use Rattle.bad_input.proofs.Laws.{over}

@@ -1,4 +1,4 @@
--- `refusals::bad_stops` meets its contract. Assumes nothing.
+-- `bad_input::bad_stops` meets its contract. Assumes nothing.
 use mathlib.Core.Path.{refl}
 use Rattle.model.specs.Refusals.{badStops}
 use Rattle.bad_input.proofs.bad_stops.Statement.{statement}

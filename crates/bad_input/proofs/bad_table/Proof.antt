@@ -1,4 +1,4 @@
--- `refusals::bad_table` meets its contract. Assumes nothing.
+-- `bad_input::bad_table` meets its contract. Assumes nothing.
 use borrow.Author.Tests.{lt-ltb, le-ltb}
 use Rattle.model.specs.Refusals.{badTable}
 use Rattle.bad_input.proofs.Laws.{square}

@@ -1,4 +1,4 @@
--- `refusals::bad_vehicles` meets its contract. Assumes nothing.
+-- `bad_input::bad_vehicles` meets its contract. Assumes nothing.
 use borrow.Author.Tests.{eq-eqb, ne-eqb}
 use Rattle.model.specs.Refusals.{badVehicles}
 use Rattle.bad_input.proofs.bad_vehicles.Statement.{statement}

@@ -1,4 +1,4 @@
--- `refusals::too_large` meets its contract. Assumes nothing.
+-- `bad_input::too_large` meets its contract. Assumes nothing.
 use borrow.Author.Tests.{lt-ltb, le-ltb}
 use Rattle.model.specs.Refusals.{tooLarge}
 use Rattle.bad_input.proofs.too_large.Statement.{statement}

@@ -1,4 +1,4 @@
--- `planner::rebuild` meets its contract. Assumes nothing.
+-- `move_calls::rebuild` meets its contract. Assumes nothing.
 use mathlib.Core.Path.{_≡_, refl, sym, _∙_}
 use Rattle.model.specs.Job.{jobOf}
 use Rattle.model.specs.Refusals.{Arguments, asking, Rebuild, refusal}

@@ -1,4 +1,4 @@
--- `planner::two_opt` meets its contract. Assumes nothing.
+-- `move_calls::two_opt` meets its contract. Assumes nothing.
 use mathlib.Core.Path.{_≡_, refl, sym, _∙_}
 use mathlib.Core.List.{[], _∷_}
 use Rattle.model.specs.Job.{jobOf}

@@ -1,4 +1,4 @@
--- `ruin_and_recreate::counted` meets its contract. Assumes nothing.
+-- `one_round::counted` meets its contract. Assumes nothing.
 use borrow.Author.Needs.{needs}
 use mathlib.Core.Path.{refl, ap}
 use Prim.Native.Nat.{ℕ, _+_}

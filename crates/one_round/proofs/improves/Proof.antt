@@ -1,4 +1,4 @@
--- `ruin_and_recreate::improves` meets its contract. Assumes nothing.
+-- `one_round::improves` meets its contract. Assumes nothing.
 use mathlib.Core.Bool.{true, false}
 use native.Mathlib.Omega.{arith}
 use Rattle.one_round.proofs.Steps.{improves-one}

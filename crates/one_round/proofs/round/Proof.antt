@@ -1,4 +1,4 @@
--- `ruin_and_recreate::round` meets its contract. Assumes nothing.
+-- `one_round::round` meets its contract. Assumes nothing.
 use borrow.Author.Needs.{needs}
 use mathlib.Core.Path.{refl}
 use native.Mathlib.Omega.{arith}

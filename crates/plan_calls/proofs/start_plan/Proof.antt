@@ -1,4 +1,4 @@
--- `planner::start_plan` meets its contract. Assumes nothing.
+-- `plan_calls::start_plan` meets its contract. Assumes nothing.
 use mathlib.Core.Path.{_≡_, sym, _∙_}
 use mathlib.Core.List.{[]}
 use Rattle.model.specs.Job.{jobOf}

@@ -1,4 +1,4 @@
--- `planner::solve` meets its contract. Assumes nothing.
+-- `run_calls::solve` meets its contract. Assumes nothing.
 use mathlib.Core.Path.{_≡_, refl, sym, _∙_}
 use Rattle.model.specs.Job.{jobOf}
 use Rattle.model.specs.Refusals.{Arguments, Solve, refusal}
