@@ -14,7 +14,7 @@ use Rattle.model.specs.Refusals.{Arguments, Call, Weigh, StartPlan, TwoOpt, Reb
 use Rattle.model.proofs.Lists.{neither}
 use Rattle.model.proofs.Counts.{Below, allBelow-below, allOnce-once}
 use Rattle.model.proofs.PlanForm.{isPlan-lent}
-use Rattle.refusals.proofs.Passed.{none-applies, sized}
+use Rattle.call_refusals.proofs.Passed.{none-applies, sized}
 use Rattle.distance.specs.Table.{InLimits}
 use Rattle.distance.proofs.Limits.{in-limits}
 

@@ -5,13 +5,13 @@ use native.Mathlib.Omega.{arith}
 use mathlib.Core.List.{List}
 use lib.ListN.{length, drop, length-drop}
 use lib.Seq.{take-all}
-use Rattle.input.specs.declared.Filled.{Filled}
-use Rattle.input.specs.declared.Filled.the-variants as F
-use Rattle.input.specs.Filling.{Refilled}
-use Rattle.call_sheet.specs.Sheets.{longestSheet}
-use Rattle.call_sheet.specs.declared.SheetRead.{SheetRead}
-use Rattle.call_sheet.specs.declared.SheetRead.the-variants as R
-use Rattle.call_sheet.specs.Running.{Answered, NoSheet, AnswersSheet}
+use Rattle.file_input.specs.declared.Filled.{Filled}
+use Rattle.file_input.specs.declared.Filled.the-variants as F
+use Rattle.file_input.specs.Filling.{Refilled}
+use Rattle.sheet_answer.specs.Sheets.{longestSheet}
+use Rattle.sheet_answer.specs.declared.SheetRead.{SheetRead}
+use Rattle.sheet_answer.specs.declared.SheetRead.the-variants as R
+use Rattle.sheet_answer.specs.Running.{Answered, NoSheet, AnswersSheet}
 use Rattle.calls.specs.declared.Left.{Left}
 use Rattle.calls.specs.declared.Left.the-variants.{Bytes, Nothing}
 use Rattle.calls.specs.Rest.{Within, Still, Keeps}

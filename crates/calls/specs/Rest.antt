@@ -3,7 +3,7 @@ use mathlib.Core.Path.{_≡_}
 use Prim.Native.Nat.{ℕ, _-_, _≤_}
 use mathlib.Core.List.{List}
 use lib.ListN.{length, take, drop}
-use Rattle.call_sheet.specs.Sheets.{longestSheet}
+use Rattle.sheet_answer.specs.Sheets.{longestSheet}
 use Rattle.calls.specs.declared.Left.{Left}
 use Rattle.calls.specs.declared.Left.the-variants.{Bytes, Nothing}
 

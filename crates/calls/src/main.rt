@@ -1,11 +1,11 @@
 // Reads call sheets from standard input, one after another up to its end, runs each and prints its answer.
-use call_sheet::SheetRead;
-use input::Filled;
+use file_input::Filled;
 use libc::STDIN_FILENO;
 use libc::STDOUT_FILENO;
+use sheet_answer::SheetRead;
 ghost use Prim.Native.Nat.{_≤_};
 ghost use lib.ListN.{length};
-ghost use Rattle.call_sheet.specs.Sheets.{longestSheet};
+ghost use Rattle.sheet_answer.specs.Sheets.{longestSheet};
 ghost use Rattle.calls.specs.Rest.{Within, Keeps};
 
 // The most bytes that a sheet has: 15, 113, 1,345, and 106,592 of its job file. Where so many are left, nothing after them matters.
@@ -28,7 +28,7 @@ fn more(bytes: &mut [u8], at: usize, end: usize) -> Left
     if LONGEST <= end - at {
         return Left::Bytes(at, end);
     }
-    let Filled::Bytes(n) = input::refill(STDIN_FILENO, bytes, at) else {
+    let Filled::Bytes(n) = file_input::refill(STDIN_FILENO, bytes, at) else {
         os::fail(b"standard input");
         return Left::Nothing;
     };
@@ -40,7 +40,7 @@ fn answer(bytes: &[u8], at: usize) -> Left
     ensures { λ r. ⌜ Within (length (now (bytes .entry))) r ⌝ }
 {
     let mut out = [0u8; 1446];
-    match call_sheet::answer_sheet(bytes, at, &mut out) {
+    match sheet_answer::answer_sheet(bytes, at, &mut out) {
         SheetRead::Answered(end, printed) => {
             if io::write_all(STDOUT_FILENO, &out[0..printed]) {
                 return Left::Bytes(end, bytes.len());

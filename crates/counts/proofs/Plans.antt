@@ -18,9 +18,9 @@ use Rattle.model.proofs.Members.{In, once-distinct}
 use Rattle.model.proofs.Regions.{Stretch}
 use Rattle.model.proofs.Arrangements.{vehiclesOf}
 use Rattle.model.specs.Rebuild.{fillings}
-use Rattle.words.specs.Words.{arrangementCount}
-use Rattle.words.proofs.Visits.{count-fillings}
-use Rattle.words.specs.Gaps.{regionsOf, Gapped}
+use Rattle.rebuild_words.specs.Words.{arrangementCount}
+use Rattle.rebuild_words.proofs.Visits.{count-fillings}
+use Rattle.rebuild_words.specs.Gaps.{regionsOf, Gapped}
 
 -- a table of no distances
 zeros : (n i : ℕ) → _≡_ {A = ℕ} (getD (replicate n 0) i 0) 0

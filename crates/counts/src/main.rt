@@ -4,8 +4,8 @@ ghost use Prim.Native.Nat.{_≤_};
 ghost use lib.ListN.{length};
 ghost use Rattle.model.specs.Plan.{decode};
 ghost use Rattle.model.specs.Region.{drained};
-ghost use Rattle.words.specs.Words.{arrangementCount};
-ghost use Rattle.words.specs.Gaps.{regionsOf, Gapped};
+ghost use Rattle.rebuild_words.specs.Words.{arrangementCount};
+ghost use Rattle.rebuild_words.specs.Gaps.{regionsOf, Gapped};
 use libc::STDOUT_FILENO;
 use model::Prices;
 
@@ -22,7 +22,7 @@ fn count(v: usize, n: usize, plan: &[u32], regions: &[u32]) -> u64
     };
     let mut best = [0u32; 80];
     let m = v + n;
-    let found = arrange::arrange(&legs, v, n, prices, plan, regions, &mut best[..m]);
+    let found = rebuild_arrange::arrange(&legs, v, n, prices, plan, regions, &mut best[..m]);
     found.count
 }
 

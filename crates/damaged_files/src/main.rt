@@ -1,17 +1,17 @@
 // Prints, for each file that an argument names, its name and what the shuttle program prints for it.
-use input::Filled;
+use file_input::Filled;
 use libc::STDOUT_FILENO;
 
 // What is printed for an open file.
 fn print_answer(fd: i32, name: &[u8]) {
     // one byte more than the longest job file has, so that a longer one is seen not to end there
     let mut bytes = [0u8; 106593];
-    let Filled::Bytes(n) = input::fill(fd, &mut bytes, 0) else {
+    let Filled::Bytes(n) = file_input::fill(fd, &mut bytes, 0) else {
         os::fail(name);
         return;
     };
     let mut out = [0u8; 677];
-    let m = answers::answer(&bytes[0..n], &mut out);
+    let m = shuttle_answers::answer(&bytes[0..n], &mut out);
     if !io::write_all(STDOUT_FILENO, &out[0..m]) {
         os::fail(b"standard output");
     }

@@ -19,14 +19,14 @@ pub fn exhaustive(
     ensures { λ r. ⌜ r ≡ costAnswer Exhaustive (asking (jobOf (now (vehicles .entry)) (now (stops .entry)) locations (now (distances .entry)) prices) (now (plan .entry)) []) ⌝ }
     ensures { λ _. ⌜ now (plan .exit) ≡ planLeft Exhaustive (asking (jobOf (now (vehicles .entry)) (now (stops .entry)) locations (now (distances .entry)) prices) (now (plan .entry)) []) ⌝ }
 {
-    let refused = refusals::of_exhaustive(vehicles, stops, locations, distances, prices, plan);
+    let refused = call_refusals::of_exhaustive(vehicles, stops, locations, distances, prices, plan);
     if refused != 0 {
         return Weighed::Refused(refused);
     }
     let mut legs = [0u32; 6400];
     distance::leg_table(vehicles, stops, locations, distances, &mut legs);
     let v = vehicles.len() / 2;
-    Weighed::Cost(exact::exhaustive(&legs, v, stops.len(), prices, plan))
+    Weighed::Cost(exhaustive::exhaustive(&legs, v, stops.len(), prices, plan))
 }
 
 // Writes the plan that the pruned solver chooses, and weighs it.
@@ -41,7 +41,7 @@ pub fn pruned(
     ensures { λ r. ⌜ r ≡ costAnswer Pruned (asking (jobOf (now (vehicles .entry)) (now (stops .entry)) locations (now (distances .entry)) prices) (now (plan .entry)) []) ⌝ }
     ensures { λ _. ⌜ now (plan .exit) ≡ planLeft Pruned (asking (jobOf (now (vehicles .entry)) (now (stops .entry)) locations (now (distances .entry)) prices) (now (plan .entry)) []) ⌝ }
 {
-    let refused = refusals::of_exhaustive(vehicles, stops, locations, distances, prices, plan);
+    let refused = call_refusals::of_exhaustive(vehicles, stops, locations, distances, prices, plan);
     if refused != 0 {
         return Weighed::Refused(refused);
     }

@@ -8,7 +8,7 @@ fn first() -> [u32; 5]
 {
     let route = [0u32, 1, 2, 3, 4];
     let mut out = [0u32; 5];
-    inversions::ends_exchanged(&route, 0, 4, &mut out);
+    two_opt_inversions::ends_exchanged(&route, 0, 4, &mut out);
     out
 }
 
@@ -18,7 +18,7 @@ fn second() -> [u32; 5]
 {
     let route = [0u32, 1, 2, 3, 4];
     let mut out = [0u32; 5];
-    inversions::inverted(&route, 0, 4, &mut out);
+    two_opt_inversions::inverted(&route, 0, 4, &mut out);
     out
 }
 

@@ -22,7 +22,15 @@ pub fn two_opt(
     ensures { λ _. ⌜ now (plan .exit) ≡ planLeft TwoOpt (asking (jobOf (now (vehicles .entry)) (now (stops .entry)) locations (now (distances .entry)) prices) (now (plan .entry)) (first ∷ second ∷ [])) ⌝ }
 {
     let both = [first, second];
-    let refused = refusals::of_rebuild(vehicles, stops, locations, distances, prices, plan, &both);
+    let refused = call_refusals::of_rebuild(
+        vehicles,
+        stops,
+        locations,
+        distances,
+        prices,
+        plan,
+        &both,
+    );
     if refused != 0 {
         return Weighed::Refused(refused);
     }
@@ -47,7 +55,15 @@ pub fn rebuild(
     ensures { λ r. ⌜ r ≡ costAnswer Rebuild (asking (jobOf (now (vehicles .entry)) (now (stops .entry)) locations (now (distances .entry)) prices) (now (plan .entry)) (now (given .entry))) ⌝ }
     ensures { λ _. ⌜ now (plan .exit) ≡ planLeft Rebuild (asking (jobOf (now (vehicles .entry)) (now (stops .entry)) locations (now (distances .entry)) prices) (now (plan .entry)) (now (given .entry))) ⌝ }
 {
-    let refused = refusals::of_rebuild(vehicles, stops, locations, distances, prices, plan, given);
+    let refused = call_refusals::of_rebuild(
+        vehicles,
+        stops,
+        locations,
+        distances,
+        prices,
+        plan,
+        given,
+    );
     if refused != 0 {
         return Weighed::Refused(refused);
     }

@@ -4,7 +4,7 @@ ghost use mathlib.Core.List.{[], _∷_};
 ghost use Rattle.model.specs.Job.{jobOf};
 ghost use Rattle.model.specs.Refusals.{asking, TwoOpt, Rebuild};
 ghost use Rattle.model.specs.Calls.{costAnswer, planLeft};
-ghost use Rattle.printing.specs.Printing.{Prints};
+ghost use Rattle.file_printing.specs.Printing.{Prints};
 ghost use Rattle.sheet_lines.specs.Printed.{printedWeighed, Printable};
 use model::Prices;
 

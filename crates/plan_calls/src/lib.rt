@@ -6,7 +6,7 @@ ghost use mathlib.Core.List.{[]};
 ghost use Rattle.model.specs.Job.{jobOf};
 ghost use Rattle.model.specs.Refusals.{asking, Weigh, StartPlan};
 ghost use Rattle.model.specs.Calls.{costAnswer, startAnswer, planLeft};
-ghost use Rattle.refusals.specs.Asked.{unpriced};
+ghost use Rattle.call_refusals.specs.Asked.{unpriced};
 use model::Prices;
 use model::Weighed;
 use model::Written;
@@ -22,7 +22,7 @@ pub fn weigh(
 ) -> Weighed
     ensures { λ r. ⌜ r ≡ costAnswer Weigh (asking (jobOf (now (vehicles .entry)) (now (stops .entry)) locations (now (distances .entry)) prices) (now (plan .entry)) []) ⌝ }
 {
-    let refused = refusals::of_weigh(vehicles, stops, locations, distances, prices, plan);
+    let refused = call_refusals::of_weigh(vehicles, stops, locations, distances, prices, plan);
     if refused != 0 {
         return Weighed::Refused(refused);
     }
@@ -43,7 +43,7 @@ pub fn start_plan(
     ensures { λ r. ⌜ r ≡ startAnswer (asking (jobOf (now (vehicles .entry)) (now (stops .entry)) locations (now (distances .entry)) unpriced) (now (plan .entry)) []) ⌝ }
     ensures { λ _. ⌜ now (plan .exit) ≡ planLeft StartPlan (asking (jobOf (now (vehicles .entry)) (now (stops .entry)) locations (now (distances .entry)) unpriced) (now (plan .entry)) []) ⌝ }
 {
-    let refused = refusals::of_start_plan(vehicles, stops, locations, distances, plan);
+    let refused = call_refusals::of_start_plan(vehicles, stops, locations, distances, plan);
     if refused != 0 {
         return Written::Refused(refused);
     }

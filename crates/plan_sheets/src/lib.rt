@@ -4,8 +4,8 @@ ghost use mathlib.Core.List.{[]};
 ghost use Rattle.model.specs.Job.{jobOf};
 ghost use Rattle.model.specs.Refusals.{asking, Weigh, StartPlan};
 ghost use Rattle.model.specs.Calls.{costAnswer, startAnswer, planLeft};
-ghost use Rattle.refusals.specs.Asked.{unpriced};
-ghost use Rattle.printing.specs.Printing.{Prints};
+ghost use Rattle.call_refusals.specs.Asked.{unpriced};
+ghost use Rattle.file_printing.specs.Printing.{Prints};
 ghost use Rattle.sheet_lines.specs.Printed.{printedWeight, printedStart, Printable};
 use model::Prices;
 use model::Weighed;
@@ -26,8 +26,8 @@ pub fn weigh(
         (printedWeight (costAnswer Weigh (asking (jobOf (now (vehicles .entry)) (now (stops .entry)) locations (now (distances .entry)) prices) (now (plan .entry)) []))) ⌝ }
 {
     match planner::weigh(vehicles, stops, locations, distances, prices, plan) {
-        Weighed::Refused(number) => printing::print_refusal(number, out),
-        Weighed::Cost(c) => print_answers::print_cost(c, out),
+        Weighed::Refused(number) => file_printing::print_refusal(number, out),
+        Weighed::Cost(c) => sheet_printing::print_cost(c, out),
     }
 }
 
@@ -47,7 +47,7 @@ pub fn start_plan(
     ensures { λ _. ⌜ now (plan .exit) ≡ planLeft StartPlan (asking (jobOf (now (vehicles .entry)) (now (stops .entry)) locations (now (distances .entry)) unpriced) (now (plan .entry)) []) ⌝ }
 {
     match planner::start_plan(vehicles, stops, locations, distances, plan) {
-        Written::Refused(number) => printing::print_refusal(number, out),
-        Written::Done => print_answers::print_list(plan, out),
+        Written::Refused(number) => file_printing::print_refusal(number, out),
+        Written::Done => sheet_printing::print_list(plan, out),
     }
 }

@@ -5,7 +5,7 @@ ghost use mathlib.Core.List.{[], _∷_};
 ghost use Rattle.model.specs.Job.{jobOf};
 ghost use Rattle.model.specs.Refusals.{asking, Weigh, StartPlan, TwoOpt, Rebuild, Exhaustive, Pruned, Solve};
 ghost use Rattle.model.specs.Calls.{costAnswer, startAnswer, solveAnswer, planLeft, saidByWeighed, saidByWritten, saidBySolved};
-ghost use Rattle.refusals.specs.Asked.{unpriced, running};
+ghost use Rattle.call_refusals.specs.Asked.{unpriced, running};
 ghost use Rattle.run_calls.specs.Kept.{Keeps};
 ghost use Rattle.planner_ffi.specs.Border.{priced, costLeft, results, resultsLeft};
 use model::Prices;

@@ -8,10 +8,10 @@ use Rattle.model.specs.Region.{regions}
 use Rattle.model.specs.Rebuild.{rebuild}
 use Rattle.model.specs.declared.Prices.{Prices}
 use Rattle.delivery.specs.Costs.{Ready}
-use Rattle.regions.specs.Reading.{readRegions}
-use Rattle.words.specs.Gaps.{regionsOf}
-use Rattle.choice.specs.declared.Score.{Score}
-use Rattle.arrange.specs.Arranged.{Arrangeable, Arranged}
+use Rattle.rebuild_regions.specs.Reading.{readRegions}
+use Rattle.rebuild_words.specs.Gaps.{regionsOf}
+use Rattle.rebuild_choice.specs.declared.Score.{Score}
+use Rattle.rebuild_arrange.specs.Arranged.{Arrangeable, Arranged}
 use Rattle.rebuild.specs.Rebuilt.{Rebuilt}
 use Rattle.rebuild.proofs.Regions.{regions-few, regions-same, regions-gapped, regions-drained}
 

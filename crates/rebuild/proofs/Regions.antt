@@ -12,9 +12,9 @@ use Rattle.model.specs.Lists.{upFrom, member}
 use Rattle.model.specs.Plan.{Plan, routeOf, vehicleOf, isPlaced, decode, Lent, Sizes}
 use Rattle.model.specs.Region.{Region, keepPicks, regionOf, regions, drainedFrom, drained}
 use Rattle.model.proofs.Regions.{regions-stretches}
-use Rattle.regions.specs.Reading.{regionAt, readRegions}
-use Rattle.regions.proofs.Reading.{length-read}
-use Rattle.words.specs.Gaps.{regionsOf, Gapped}
+use Rattle.rebuild_regions.specs.Reading.{regionAt, readRegions}
+use Rattle.rebuild_regions.proofs.Reading.{length-read}
+use Rattle.rebuild_words.specs.Gaps.{regionsOf, Gapped}
 
 -- ---- the reading
 

@@ -2,10 +2,10 @@
 ghost use Prim.Native.Nat.{_≤_};
 ghost use lib.ListN.{length};
 ghost use Rattle.delivery.specs.Costs.{Ready};
-ghost use Rattle.arrange.specs.Arranged.{Arrangeable, Arranged};
+ghost use Rattle.rebuild_arrange.specs.Arranged.{Arrangeable, Arranged};
 ghost use Rattle.rebuild.specs.Rebuilt.{Rebuilt};
-use choice::Score;
 use model::Prices;
+use rebuild_choice::Score;
 
 // Writes the best arrangement of the stops of some regions over the plan that has them.
 pub fn rearrange(
@@ -21,7 +21,7 @@ pub fn rearrange(
 {
     let m = v + n;
     let mut best = [0u32; 80];
-    let score = arrange::arrange(legs, v, n, prices, plan, regions, &mut best[..m]);
+    let score = rebuild_arrange::arrange(legs, v, n, prices, plan, regions, &mut best[..m]);
     pasting::copy_plan(&best[..m], plan);
     score
 }
@@ -39,7 +39,7 @@ pub fn rebuild(
     ensures { λ r. ⌜ Rebuilt (now (legs .entry)) v n prices (now (plan .entry)) (now (picks .entry)) (now (plan .exit)) r ⌝ }
 {
     let mut regions = [0u32; 6];
-    let p = regions::regions_of(plan, v, n, picks, &mut regions);
+    let p = rebuild_regions::regions_of(plan, v, n, picks, &mut regions);
     let end = 3 * p;
     let score = rearrange(legs, v, n, prices, plan, &regions[..end]);
     score.cost

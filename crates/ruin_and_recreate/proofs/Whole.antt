@@ -24,9 +24,9 @@ use Rattle.model.proofs.PlanForm.{decode-encode}
 use Rattle.model.proofs.Runs.{start-goes, follows, counts}
 use Rattle.nearest_neighbor.specs.Answers.{Started}
 use Rattle.nearest_neighbor.proofs.Turns.{start-routes}
-use Rattle.one_round.proofs.Steps.{same-state}
-use Rattle.one_round.specs.declared.Progress.{Progress}
-use Rattle.one_round.specs.Standing.{stateOf, CostOf, Standing, Rounded, taskFor}
+use Rattle.run_round.proofs.Steps.{same-state}
+use Rattle.run_round.specs.declared.Progress.{Progress}
+use Rattle.run_round.specs.Standing.{stateOf, CostOf, Standing, Rounded, taskFor}
 use Rattle.ruin_and_recreate.specs.Runs.{Ended, Ran}
 
 -- ---- what remains of the rounds

@@ -11,8 +11,8 @@ use Rattle.model.specs.Plan.{encode, Sizes}
 use Rattle.model.specs.Legs.{LegTable, Affordable, Fits}
 use Rattle.model.specs.Run.{startState, rounds, lastState}
 use Rattle.model.specs.Calls.{finalState, totals}
-use Rattle.one_round.specs.declared.Progress.{Progress}
-use Rattle.one_round.specs.Standing.{stateOf, Standing, taskFor}
+use Rattle.run_round.specs.declared.Progress.{Progress}
+use Rattle.run_round.specs.Standing.{stateOf, Standing, taskFor}
 
 -- where the rounds from the start plan on end
 pub record Ended (legs : List ℕ) (v n : ℕ) (prices : Prices) (draws : List ℕ) (c limit : ℕ) (plan : List ℕ) (r : Progress) : Type 0 where

@@ -2,11 +2,11 @@
 ghost use mathlib.Core.Path.{_≡_};
 ghost use Rattle.model.specs.Plan.{decode};
 ghost use Rattle.nearest_neighbor.specs.Answers.{Started};
-ghost use Rattle.one_round.specs.Standing.{Course, CostOf};
+ghost use Rattle.run_round.specs.Standing.{Course, CostOf};
 ghost use Rattle.ruin_and_recreate.specs.Runs.{Ended, Runnable, Ran};
 use model::Prices;
 use model::Totals;
-use one_round::Progress;
+use run_round::Progress;
 
 // The rounds from the start plan on, which costs `start`: until the stopping rule holds, at most `limit` of them.
 fn rounds(
@@ -33,7 +33,7 @@ fn rounds(
         place: 0,
     };
     while p.rounds < limit {
-        p = one_round::round(legs, v, n, prices, near, draws, smoothing, plan, p);
+        p = run_round::round(legs, v, n, prices, near, draws, smoothing, plan, p);
         let a = p.averages;
         if settle::settled(a, p.rounds) {
             return p;

@@ -7,8 +7,8 @@ use Rattle.model.specs.declared.Solved.{Solved}
 use Rattle.model.specs.declared.Solved.the-variants as S
 use Rattle.model.specs.Refusals.{Arguments, Solve, refusal}
 use Rattle.model.specs.Calls.{taskOf, roundsOf, finalState, totals, solved, solveAnswer, made, leftBy, planLeft}
-use Rattle.promise.specs.Accepted.{Accepted}
-use Rattle.promise.proofs.Theorem.{promise}
+use Rattle.run_promise.specs.Accepted.{Accepted}
+use Rattle.run_promise.proofs.Theorem.{promise}
 use Rattle.run_calls.specs.Kept.{Keeps}
 use Rattle.call_laws.proofs.Passed.{listed, affordable, smooth}
 

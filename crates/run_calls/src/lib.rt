@@ -3,7 +3,7 @@ ghost use mathlib.Core.Path.{_≡_};
 ghost use Rattle.model.specs.Job.{jobOf};
 ghost use Rattle.model.specs.Refusals.{Solve};
 ghost use Rattle.model.specs.Calls.{solveAnswer, planLeft};
-ghost use Rattle.refusals.specs.Asked.{running};
+ghost use Rattle.call_refusals.specs.Asked.{running};
 ghost use Rattle.run_calls.specs.Kept.{Keeps};
 use model::Prices;
 use model::Solved;
@@ -24,7 +24,7 @@ pub fn solve(
     ensures { λ _. ⌜ now (plan .exit) ≡ planLeft Solve (running (jobOf (now (vehicles .entry)) (now (stops .entry)) locations (now (distances .entry)) prices) smoothing limit (now (draws .entry)) (now (plan .entry))) ⌝ }
     ensures { λ r. ⌜ Keeps (running (jobOf (now (vehicles .entry)) (now (stops .entry)) locations (now (distances .entry)) prices) smoothing limit (now (draws .entry)) (now (plan .entry))) r (now (plan .exit)) ⌝ }
 {
-    let refused = refusals::of_solve(
+    let refused = call_refusals::of_solve(
         vehicles,
         stops,
         locations,

@@ -3,8 +3,8 @@ ghost use mathlib.Core.Path.{_≡_};
 ghost use Rattle.model.specs.Job.{jobOf};
 ghost use Rattle.model.specs.Refusals.{Solve};
 ghost use Rattle.model.specs.Calls.{solveAnswer, planLeft};
-ghost use Rattle.refusals.specs.Asked.{running};
-ghost use Rattle.printing.specs.Printing.{Prints};
+ghost use Rattle.call_refusals.specs.Asked.{running};
+ghost use Rattle.file_printing.specs.Printing.{Prints};
 ghost use Rattle.sheet_lines.specs.Printed.{printedSolved, Printable};
 use model::Prices;
 use model::Solved;
@@ -38,7 +38,7 @@ pub fn solve(
         draws,
         plan,
     ) {
-        Solved::Refused(number) => printing::print_refusal(number, out),
-        Solved::Ran(t) => print_answers::print_totals_and_list(t, plan, out),
+        Solved::Refused(number) => file_printing::print_refusal(number, out),
+        Solved::Ran(t) => sheet_printing::print_totals_and_list(t, plan, out),
     }
 }

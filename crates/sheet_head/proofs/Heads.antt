@@ -8,9 +8,9 @@ use borrow.Author.Tests.{ne-eqb}
 use lib.ListN.{getD}
 use Rattle.model.specs.File.{line, Stands}
 use Rattle.model.proofs.Pieces.{none-over-nil, none-over-cons}
-use Rattle.columns.specs.Field.{NumberAt}
-use Rattle.lines.specs.Standing.{LineAt}
-use Rattle.lines.proofs.Known.{one-number}
+use Rattle.file_columns.specs.Field.{NumberAt}
+use Rattle.file_lines.specs.Standing.{LineAt}
+use Rattle.file_lines.proofs.Known.{one-number}
 use Rattle.sheet_head.specs.declared.ListRead.{ListRead}
 use Rattle.sheet_head.specs.declared.ListRead.the-variants as L
 use Rattle.sheet_head.specs.Form.{hasGiven, leastGiven, mostGiven, hasPlan}

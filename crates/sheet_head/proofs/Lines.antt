@@ -7,7 +7,7 @@ use mathlib.Core.List.{List, [], _∷_, _++_}
 use lib.ListN.{length, getD, length-append}
 use Rattle.model.specs.File.{line, Stands}
 use Rattle.model.proofs.Pieces.{stands-within, part-at, join-at, part, join, Fitting, fitting, fitting-nil, fitting-cons, line-length, same-line}
-use Rattle.lines.specs.Standing.{over}
+use Rattle.file_lines.specs.Standing.{over}
 use Rattle.sheet_lines.specs.Printed.{longestPlan}
 use Rattle.sheet_head.specs.declared.Listed.{Listed}
 use Rattle.sheet_head.specs.declared.ListRead.{ListRead}

@@ -10,11 +10,11 @@ use lib.Seq.{drop-cons, take-all}
 use Rattle.model.specs.File.{space, lineFeed, digit, digits, columns, line, lines, Stands}
 use Rattle.model.proofs.Columns.{tested, by-digits, digits-small, digits-more, columns-length}
 use Rattle.model.proofs.Pieces.{stands-within, fitting, field-at, lines-one, same-line}
-use Rattle.columns.specs.declared.Field.{Field}
-use Rattle.columns.specs.declared.Field.the-variants.{Number, Bad}
-use Rattle.columns.specs.Field.{FieldAt}
-use Rattle.lines.specs.Standing.{LineAt, Fillable, Filled}
-use Rattle.lines.proofs.Checks.{line-start, line-end}
+use Rattle.file_columns.specs.declared.Field.{Field}
+use Rattle.file_columns.specs.declared.Field.the-variants.{Number, Bad}
+use Rattle.file_columns.specs.Field.{FieldAt}
+use Rattle.file_lines.specs.Standing.{LineAt, Fillable, Filled}
+use Rattle.file_lines.proofs.Checks.{line-start, line-end}
 use Rattle.sheet_head.specs.declared.ListRead.the-variants as L
 use Rattle.sheet_head.specs.Reading.{Listing, CountAt, ListAt}
 

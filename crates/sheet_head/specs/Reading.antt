@@ -5,7 +5,7 @@ use mathlib.Core.Bool.{Bool, true, false}
 use mathlib.Core.List.{List, [], _∷_}
 use lib.ListN.{length}
 use Rattle.model.specs.File.{line, NoneOver, Stands}
-use Rattle.lines.specs.Standing.{over}
+use Rattle.file_lines.specs.Standing.{over}
 use Rattle.sheet_head.specs.declared.ListRead.{ListRead}
 use Rattle.sheet_head.specs.declared.ListRead.the-variants as L
 use Rattle.sheet_head.specs.declared.Head.{Head}

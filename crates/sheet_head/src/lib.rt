@@ -1,5 +1,5 @@
 // What stands before the job file of a call sheet: the call's number, and its lines of given stops and of a plan.
-use columns::Field;
+use file_columns::Field;
 ghost use mathlib.Core.Path.{_≡_};
 ghost use Prim.Native.Nat.{_≤_};
 ghost use lib.ListN.{length};
@@ -38,7 +38,7 @@ fn count_fields(bytes: &[u8], at: usize, most: usize) -> usize
     let mut next = at;
     let mut i: usize = 0;
     while i < most {
-        let Field::Number(_) = columns::read_field(bytes, next) else {
+        let Field::Number(_) = file_columns::read_field(bytes, next) else {
             return i;
         };
         next += 14;
@@ -56,10 +56,10 @@ fn read_list(bytes: &[u8], at: usize, least: usize, most: usize, list: &mut [u32
     if count < least {
         return ListRead::Bad;
     }
-    if !lines::check_line(bytes, at, count) {
+    if !file_lines::check_line(bytes, at, count) {
         return ListRead::Bad;
     }
-    lines::fill_lines(bytes, at, 1, count, list);
+    file_lines::fill_lines(bytes, at, 1, count, list);
     ListRead::Read(Listed {
         count,
         end: at + (14 * count + 1),
@@ -109,10 +109,10 @@ fn read_plan(bytes: &[u8], at: usize, call: u32, plan: &mut [u32]) -> ListRead
 fn read_call(bytes: &[u8], at: usize) -> u32
     ensures { λ r. ⌜ CallAt (now (bytes .entry)) at r ⌝ }
 {
-    if !lines::check_line(bytes, at, 1) {
+    if !file_lines::check_line(bytes, at, 1) {
         return 0;
     }
-    let call = columns::number_at(bytes, at);
+    let call = file_columns::number_at(bytes, at);
     if 7 < call {
         return 0;
     }

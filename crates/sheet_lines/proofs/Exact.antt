@@ -21,8 +21,8 @@ use Rattle.model.proofs.Order.{better-asym, not-better, both}
 use Rattle.model.proofs.Moves.{twoOpt-le}
 use Rattle.model.proofs.Rebuilds.{rebuild-cost}
 use Rattle.model.proofs.PlanForm.{lent-length, lent-placed}
-use Rattle.promise.proofs.Limits.{cost-small}
-use Rattle.promise.proofs.Left.{formed-exact, final-formed}
+use Rattle.run_promise.proofs.Limits.{cost-small}
+use Rattle.run_promise.proofs.Left.{formed-exact, final-formed}
 use Rattle.call_laws.proofs.Passed.{listed, affordable, lent}
 use Rattle.run_calls.proofs.Solving.{task-accepted}
 use Rattle.sheet_lines.specs.Printed.{Exactly}

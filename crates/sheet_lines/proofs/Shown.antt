@@ -5,7 +5,7 @@ use Prim.Native.Nat.{ℕ}
 use Rattle.model.specs.declared.Weighed.{Weighed}
 use Rattle.model.specs.declared.Written.{Written}
 use Rattle.model.specs.declared.Solved.{Solved}
-use Rattle.printing.specs.Printing.{Prints}
+use Rattle.file_printing.specs.Printing.{Prints}
 use Rattle.sheet_lines.specs.Printed.{printedWeight, printedStart, printedWeighed, printedSolved}
 
 module _ (old new : List ℕ) (r : ℕ) where

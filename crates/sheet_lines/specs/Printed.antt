@@ -12,8 +12,8 @@ use Rattle.model.specs.declared.Solved.{Solved}
 use Rattle.model.specs.declared.Solved.the-variants as S
 use Rattle.model.specs.Whole.{IsWhole}
 use Rattle.model.specs.File.{line, printedRefusal}
-use Rattle.printing.specs.Printing.{printedTotals}
-use Rattle.print_answers.specs.Costs.{printedCost}
+use Rattle.file_printing.specs.Printing.{printedTotals}
+use Rattle.sheet_printing.specs.Costs.{printedCost}
 
 -- of weigh: the cost
 abbrev pub printedWeight : Weighed → List ℕ

@@ -1,5 +1,5 @@
 // What is printed for the answer of a single call.
-ghost use Rattle.printing.specs.Printing.{Prints};
+ghost use Rattle.file_printing.specs.Printing.{Prints};
 ghost use Rattle.sheet_lines.specs.Printed.{printedWeighed, Printable, Exactly};
 use model::Weighed;
 
@@ -10,7 +10,7 @@ pub fn print_weighed(answer: Weighed, plan: &[u32], out: &mut [u8]) -> usize
     ensures { λ r. ⌜ Prints (now (out .entry)) (now (out .exit)) r (printedWeighed answer (now (plan .entry))) ⌝ }
 {
     match answer {
-        Weighed::Refused(number) => printing::print_refusal(number, out),
-        Weighed::Cost(c) => print_answers::print_cost_and_list(c, plan, out),
+        Weighed::Refused(number) => file_printing::print_refusal(number, out),
+        Weighed::Cost(c) => sheet_printing::print_cost_and_list(c, plan, out),
     }
 }

@@ -21,8 +21,8 @@ use Rattle.solution.specs.Places.{placeOf}
 use Rattle.solution.specs.declared.Place.{Place}
 use Rattle.solution.specs.declared.Found.the-variants.{At, Nowhere}
 use Rattle.delivery.specs.Costs.{Ready}
-use Rattle.inter.specs.Move.{OnTwoRoutes}
-use Rattle.intra.specs.Reordered.{OneRoute}
+use Rattle.two_opt_inter.specs.Move.{OnTwoRoutes}
+use Rattle.two_opt_intra.specs.Reordered.{OneRoute}
 
 -- ---- where a stop is
 

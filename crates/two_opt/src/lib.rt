@@ -29,9 +29,9 @@ pub fn pair(legs: &[u32], v: usize, n: usize, prices: Prices, plan: &mut [u32], 
     let a = x.vehicle;
     let b = y.vehicle;
     if a == b {
-        intra::intra(legs, v, n, prices, plan, a, s, t);
+        two_opt_intra::intra(legs, v, n, prices, plan, a, s, t);
     } else {
-        inter::inter(legs, v, n, prices, plan, a, s, b, t);
+        two_opt_inter::inter(legs, v, n, prices, plan, a, s, b, t);
     }
 }
 

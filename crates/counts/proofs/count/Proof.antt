@@ -6,7 +6,7 @@ use lib.ListN.{length, replicate}
 use lib.Seq.{length-take-le}
 use Rattle.model.specs.Plan.{decode}
 use Rattle.model.specs.Region.{drained}
-use Rattle.words.specs.Gaps.{regionsOf}
+use Rattle.rebuild_words.specs.Gaps.{regionsOf}
 use Rattle.counts.proofs.Plans.{no-legs, counted}
 use borrow.Author.Needs.{needs}
 use Rattle.counts.proofs.count.Statement.{statement}

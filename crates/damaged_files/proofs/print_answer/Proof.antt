@@ -1,7 +1,7 @@
 -- `damaged_files::print_answer` is safe: what it lends on lies within its buffers.
 use native.Mathlib.Omega.{arith}
 use borrow.Author.Needs.{needs}
-use Rattle.input.proofs.Fronts.{filled-within}
+use Rattle.file_input.proofs.Fronts.{filled-within}
 use Rattle.damaged_files.proofs.print_answer.Statement.{statement}
 use Rattle.damaged_files.proofs.print_answer.Tie as tie
 

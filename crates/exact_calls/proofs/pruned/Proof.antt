@@ -4,7 +4,7 @@ use mathlib.Core.List.{[]}
 use Rattle.model.specs.Job.{jobOf}
 use Rattle.model.specs.Refusals.{Arguments, asking, Pruned, refusal}
 use Rattle.model.specs.Calls.{made}
-use Rattle.refusals.proofs.Order.{pruned-order}
+use Rattle.call_refusals.proofs.Order.{pruned-order}
 use Rattle.call_laws.proofs.Passed.{listed, affordable, small}
 use Rattle.call_laws.proofs.Answers.{refused, accepted, left-alone, left-new}
 use borrow.Author.Needs.{needs}

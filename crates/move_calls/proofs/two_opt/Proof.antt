@@ -4,7 +4,7 @@ use mathlib.Core.List.{[], _∷_}
 use Rattle.model.specs.Job.{jobOf}
 use Rattle.model.specs.Refusals.{Arguments, asking, TwoOpt, refusal}
 use Rattle.model.specs.Calls.{made}
-use Rattle.refusals.proofs.Order.{two-opt-order}
+use Rattle.call_refusals.proofs.Order.{two-opt-order}
 use Rattle.call_laws.proofs.Passed.{listed, affordable, lent, stops}
 use Rattle.call_laws.proofs.Answers.{refused, accepted, left-alone, left-new}
 use Rattle.move_calls.proofs.Pair.{apart, pair-weighed}

@@ -4,7 +4,7 @@ use mathlib.Core.List.{[]}
 use Rattle.model.specs.Job.{jobOf}
 use Rattle.model.specs.Refusals.{Arguments, asking, StartPlan, refusal}
 use Rattle.model.specs.Calls.{made}
-use Rattle.refusals.specs.Asked.{unpriced}
+use Rattle.call_refusals.specs.Asked.{unpriced}
 use Rattle.call_laws.proofs.Passed.{listed}
 use Rattle.call_laws.proofs.Answers.{start-refused, start-accepted, left-alone, left-new}
 use borrow.Author.Needs.{needs}

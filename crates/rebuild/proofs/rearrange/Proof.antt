@@ -5,7 +5,7 @@ use mathlib.Core.Path.{_≡_, sym, ap, subst, _∙_}
 use mathlib.Core.List.{List, _++_}
 use lib.ListN.{length, take, drop, replicate, length-append, length-drop}
 use lib.Seq.{length-take-le, take-at}
-use Rattle.arrange.specs.Arranged.{Arranged}
+use Rattle.rebuild_arrange.specs.Arranged.{Arranged}
 use borrow.Author.Needs.{needs}
 use Rattle.rebuild.proofs.rearrange.Statement.{statement}
 use Rattle.rebuild.proofs.rearrange.Tie as tie

@@ -3,7 +3,7 @@ use mathlib.Core.Path.{_≡_, refl, sym, _∙_}
 use Rattle.model.specs.Job.{jobOf}
 use Rattle.model.specs.Refusals.{Arguments, Solve, refusal}
 use Rattle.model.specs.Calls.{made}
-use Rattle.refusals.specs.Asked.{running}
+use Rattle.call_refusals.specs.Asked.{running}
 use Rattle.call_laws.proofs.Passed.{listed, affordable, drawable, smooth}
 use Rattle.call_laws.proofs.Answers.{left-alone, left-new}
 use Rattle.run_calls.proofs.Solving.{solve-refused, solve-accepted, keeps}

@@ -1,7 +1,7 @@
 -- `run_sheets::solve` meets its contract.
 use mathlib.Core.Path.{sym, _∙_}
 use borrow.Author.Needs.{needs}
-use Rattle.answers.proofs.Laws.{ran-priced}
+use Rattle.shuttle_answers.proofs.Laws.{ran-priced}
 use Rattle.sheet_lines.proofs.Shown.{shown-solved}
 use Rattle.run_sheets.proofs.solve.Statement.{statement}
 use Rattle.run_sheets.proofs.solve.Tie as tie

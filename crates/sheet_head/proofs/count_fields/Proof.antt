@@ -5,7 +5,7 @@ use Prim.Native.Nat.{ℕ, _+_, _*_, _-_, _≤_}
 use native.Mathlib.Omega.{arith}
 use borrow.Author.Needs.{needs}
 use lib.ListN.{length}
-use Rattle.lines.proofs.Checks.{field-within}
+use Rattle.file_lines.proofs.Checks.{field-within}
 use Rattle.sheet_head.specs.Reading.{Listing}
 use Rattle.sheet_head.proofs.Lists.{goes-on, ends}
 use Rattle.sheet_head.proofs.count_fields.Statement.{statement}

@@ -1,7 +1,7 @@
 -- `sheet_head::read_call` meets its contract.
 use borrow.Author.Needs.{needs}
 use native.Mathlib.Omega.{arith}
-use Rattle.lines.proofs.Checks.{said, denied}
+use Rattle.file_lines.proofs.Checks.{said, denied}
 use Rattle.sheet_head.proofs.Heads.{no-call, large-call, call-read}
 use Rattle.sheet_head.proofs.read_call.Statement.{statement}
 use Rattle.sheet_head.proofs.read_call.Tie as tie

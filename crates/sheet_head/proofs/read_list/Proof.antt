@@ -1,7 +1,7 @@
 -- `sheet_head::read_list` meets its contract.
 use native.Mathlib.Omega.{arith}
 use borrow.Author.Needs.{needs}
-use Rattle.lines.proofs.Checks.{said, denied}
+use Rattle.file_lines.proofs.Checks.{said, denied}
 use Rattle.sheet_head.proofs.Lists.{too-few, no-line, fillable, line-within, list-read}
 use Rattle.sheet_head.proofs.read_list.Statement.{statement}
 use Rattle.sheet_head.proofs.read_list.Tie as tie

@@ -1,7 +1,7 @@
 -- `shuttle::main` is safe: what it lends on lies within its buffers.
 use native.Mathlib.Omega.{arith}
 use borrow.Author.Needs.{needs}
-use Rattle.input.proofs.Fronts.{filled-within}
+use Rattle.file_input.proofs.Fronts.{filled-within}
 use Rattle.shuttle.proofs.main.Statement.{statement}
 use Rattle.shuttle.proofs.main.Tie as tie
 

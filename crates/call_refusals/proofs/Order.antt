@@ -1,0 +1,131 @@
+-- The table of refusals is the order in which the calls make their tests.
+use mathlib.Core.Path.{_≡_, refl, ap, sym, _∙_}
+use mathlib.Core.Bool.{Bool, true, false, cond}
+use mathlib.Core.List.{List, []}
+use Prim.Native.Nat.{ℕ, zero, suc}
+use Rattle.model.specs.declared.Prices.{Prices}
+use Rattle.model.specs.Job.{Job, jobOf, vehicleCount, stopCount}
+use Rattle.model.specs.Refusals.{Arguments, asking, Weigh, StartPlan, TwoOpt, Rebuild, Exhaustive, Pruned, Solve, refusal, badVehicles, badStops, badTable, badLength, badDraws, badLocations, badDistances, badPrices, badPlan, badGiven, tooLarge}
+use Rattle.call_refusals.specs.Order.{ofShape, ofEntries, ofJob, ofNumbers, first}
+use Rattle.call_refusals.specs.Asked.{unpriced}
+
+-- 1 to 4, then the rest
+shape-first : (b₁ b₂ b₃ b₄ : Bool) (r : ℕ) → cond b₁ 1 (cond b₂ 2 (cond b₃ 3 (cond b₄ 4 r))) ≡ first (cond b₁ 1 (cond b₂ 2 (cond b₃ 3 (cond b₄ 4 0)))) r
+shape-first true b₂ b₃ b₄ r = refl
+shape-first false true b₃ b₄ r = refl
+shape-first false false true b₄ r = refl
+shape-first false false false true r = refl
+shape-first false false false false r = refl
+
+-- 6 and 7, then the rest
+entries-first : (b₆ b₇ : Bool) (r : ℕ) → cond b₆ 6 (cond b₇ 7 r) ≡ first (cond b₆ 6 (cond b₇ 7 0)) r
+entries-first true b₇ r = refl
+entries-first false true r = refl
+entries-first false false r = refl
+
+-- one number, then the rest
+one-first : (b : Bool) (k r : ℕ) → cond b (suc k) r ≡ first (cond b (suc k) 0) r
+one-first true k r = refl
+one-first false k r = refl
+
+first-of : (a b c : ℕ) → first (first a b) c ≡ first a (first b c)
+first-of zero b c = refl
+first-of (suc a) b c = refl
+
+first-some : (a b : ℕ) → (a ≡ 0 → ⊥) → first a b ≡ a
+first-some zero b h = absurd (h refl)
+first-some (suc a) b h = refl
+
+-- a number that is not 0 is the first, and after a 0 comes the rest
+pub said-first : (x s r : ℕ) → x ≡ s → (x ≡ 0 → ⊥) → x ≡ first s r
+said-first x s r e h = e ∙ sym (first-some s r (λ z. h (e ∙ z)))
+
+pub passed-first : (x s r y : ℕ) → x ≡ s → x ≡ 0 → y ≡ r → y ≡ first s r
+passed-first x s r y e z k = rw (sym e ∙ z) k
+
+-- a test that was made, with its number
+pub taken : (b t : Bool) (k r : ℕ) → t ≡ b → t ≡ true → k ≡ cond b k r
+taken b t k r e h = rw (← e, h)
+
+pub left : (b t : Bool) (k r y : ℕ) → t ≡ b → t ≡ false → y ≡ r → y ≡ cond b k r
+left b t k r y e h z = rw (← e, h) z
+
+module _ (A : Arguments) where
+  abbrev pub shapeTests : ℕ
+  shapeTests = ofShape (A .job .vehicles) (A .job .stops) (A .job .locations) (A .job .distances) (A .plan)
+
+  abbrev pub entryTests : ℕ
+  entryTests = ofEntries (A .job .vehicles) (A .job .stops) (A .job .locations) (A .job .distances)
+
+  abbrev pub jobTests : ℕ
+  jobTests = ofJob (A .job .vehicles) (A .job .stops) (A .job .locations) (A .job .distances) (A .job .prices) (A .plan)
+
+  -- 1 to 4, then what comes after
+  leading : (r : ℕ)
+      → cond (badVehicles (A .job .vehicles)) 1
+      (cond (badStops (A .job .stops)) 2
+      (cond (badTable (A .job .locations) (A .job .distances)) 3
+      (cond (badLength (vehicleCount (A .job)) (stopCount (A .job)) (A .plan)) 4 r)))
+      ≡ first shapeTests r
+  unfolding ofShape
+  leading r =
+      shape-first (badVehicles (A .job .vehicles)) (badStops (A .job .stops)) (badTable (A .job .locations) (A .job .distances))
+      (badLength (vehicleCount (A .job)) (stopCount (A .job)) (A .plan)) r
+
+  -- 6 and 7, then what comes after
+  listed : (r : ℕ)
+      → cond (badLocations (A .job .vehicles) (A .job .stops) (A .job .locations)) 6 (cond (badDistances (A .job .distances)) 7 r)
+      ≡ first entryTests r
+  unfolding ofEntries
+  listed r = entries-first (badLocations (A .job .vehicles) (A .job .stops) (A .job .locations)) (badDistances (A .job .distances)) r
+
+  -- 1 to 4 and 6 to 8, then what comes after
+  priced : (r : ℕ) → first shapeTests (first entryTests (cond (badPrices (A .job .prices)) 8 r)) ≡ first jobTests r
+  unfolding ofJob
+  priced r =
+      ap (λ (k : ℕ). first shapeTests (first entryTests k)) (one-first (badPrices (A .job .prices)) 7 r)
+      ∙ ap (first shapeTests) (sym (first-of entryTests _ r))
+      ∙ sym (first-of shapeTests _ r)
+
+  pub start-order : refusal StartPlan A ≡ first shapeTests entryTests
+  unfolding refusal ofEntries
+  start-order = leading _
+
+  pub weigh-order : refusal Weigh A ≡ first jobTests (cond (badPlan (vehicleCount (A .job)) (stopCount (A .job)) (A .plan)) 11 0)
+  unfolding refusal
+  weigh-order = leading _ ∙ ap (first shapeTests) (listed _) ∙ priced _
+
+  -- two_opt makes the tests of rebuild, and pruned those of exhaustive
+  pub two-opt-order : refusal Rebuild A ≡ refusal TwoOpt A
+  unfolding refusal
+  two-opt-order = refl
+
+  pub exhaustive-order : refusal Exhaustive A ≡ first jobTests (cond (tooLarge (vehicleCount (A .job)) (stopCount (A .job))) 13 0)
+  unfolding refusal
+  exhaustive-order = leading _ ∙ ap (first shapeTests) (listed _) ∙ priced _
+
+  pub pruned-order : refusal Exhaustive A ≡ refusal Pruned A
+  unfolding refusal
+  pruned-order = refl
+
+  pub solve-order : refusal Solve A
+      ≡ first shapeTests (cond (badDraws (A .draws)) 5 (first entryTests (ofNumbers (A .job .prices) (A .smoothing) (A .limit))))
+  unfolding refusal ofNumbers
+  solve-order = leading _ ∙ ap (λ (k : ℕ). first shapeTests (cond (badDraws (A .draws)) 5 k)) (listed _)
+
+pub job-order : (vs ss : List ℕ) (l : ℕ) (ds : List ℕ) (p : Prices) (plan : List ℕ)
+    → first (refusal StartPlan (asking (jobOf vs ss l ds unpriced) plan [])) (cond (badPrices p) 8 0) ≡ ofJob vs ss l ds p plan
+unfolding ofJob
+job-order vs ss l ds p plan =
+    ap (λ (k : ℕ). first k (cond (badPrices p) 8 0)) (start-order (asking (jobOf vs ss l ds unpriced) plan []))
+    ∙ first-of (ofShape vs ss l ds plan) (ofEntries vs ss l ds) _
+
+pub rebuild-order : (J : Job) (plan given : List ℕ)
+    → refusal Rebuild (asking J plan given) ≡ first (refusal Weigh (asking J plan [])) (cond (badGiven (stopCount J) given) 12 0)
+unfolding refusal
+rebuild-order J plan given =
+    let A : Arguments = asking J plan [] in
+    leading A _ ∙ ap (first (shapeTests A)) (listed A _) ∙ priced A _
+    ∙ ap (first (jobTests A)) (one-first (badPlan (vehicleCount J) (stopCount J) plan) 10 _)
+    ∙ sym (first-of (jobTests A) _ _)
+    ∙ ap (λ (k : ℕ). first k (cond (badGiven (stopCount J) given) 12 0)) (sym (weigh-order A))

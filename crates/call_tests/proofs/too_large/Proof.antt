@@ -1,0 +1,16 @@
+-- `call_tests::too_large` meets its contract. Assumes nothing.
+use borrow.Author.Tests.{lt-ltb, le-ltb}
+use Rattle.model.specs.Refusals.{tooLarge}
+use Rattle.call_tests.proofs.too_large.Statement.{statement}
+use Rattle.call_tests.proofs.too_large.Tie as tie
+
+returns : tie.Need-returns
+unfolding tooLarge
+returns c = simp (lt-ltb _ _ (c .if1 .taken))
+
+returns-2 : tie.Need-returns-2
+unfolding tooLarge
+returns-2 c = simp (le-ltb _ _ (c .if1 .left))
+
+pub too-large-spec : {M : Type 1} → statement M
+too-large-spec = tie.close (tie.spec returns returns-2)

@@ -1,0 +1,58 @@
+-- `file_job::read_at` meets its contract.
+use borrow.Author.Needs.{needs}
+use Rattle.file_job.proofs.Answers.{refused-at, loadable, task-read}
+use Rattle.file_job.proofs.read_at.Statement.{statement}
+use Rattle.file_job.proofs.read_at.Tie as tie
+
+check-at-requires : tie.Need-check-at-requires
+check-at-requires c κs = search needs
+
+enum-known-h : tie.Need-enum-known-h
+enum-known-h c = search needs
+
+enum-told : tie.Need-enum-told
+enum-told c = search needs
+
+returns : tie.Need-returns
+returns c =
+    let called = c .before .before .check-at in
+    refused-at _ _ (called .result) (called .ensures) _ _ (c .enum-told .given .1)
+
+fill-at-requires : tie.Need-fill-at-requires
+fill-at-requires c κs =
+    let h = c .before .before .before .before .before in
+    let called = h .before .before .check-at in
+    loadable _ _ (called .result) (called .ensures) _ (h .h .given .1) _ (c .before .before .before .before .before .before .before .before .before .before .before .before .before .pre)
+
+same-length : tie.Need-same-length
+same-length c = search needs
+
+same-length-2 : tie.Need-same-length-2
+same-length-2 c = search needs
+
+same-length-3 : tie.Need-same-length-3
+same-length-3 c = search needs
+
+same-length-4 : tie.Need-same-length-4
+same-length-4 c = search needs
+
+returns-2 : tie.Need-returns-2
+returns-2 c =
+    let h = c .before .before .before .before .before .before .before .before .before .before .before .before .before .before in
+    let called = h .before .before .check-at in
+    task-read _ _ (called .result) (called .ensures) _ (h .h .given .1) _ _ (c .before .before .before .before .before .before .before .before .fill-at .ensures)
+
+pub read-at-spec : {M : Type 1} → statement M
+read-at-spec =
+    tie.close
+    (tie.spec
+    check-at-requires
+    enum-known-h
+    enum-told
+    returns
+    fill-at-requires
+    same-length
+    same-length-2
+    same-length-3
+    same-length-4
+    returns-2)

@@ -1,0 +1,113 @@
+-- `rebuild_last_stops::spread_two` meets its contract. It is `spread` with `finish` in the place of `walk`, and has the same invariant.
+use mathlib.Core.Path.{ap, _∙_}
+use native.Mathlib.Nat.{pos-of-ne-zero}
+use native.Mathlib.Omega.{arith}
+use lib.ListN.{length}
+use Rattle.model.specs.StopSet.{stopsOf}
+use Rattle.stop_set.proofs.Laws.{stops-none}
+use Rattle.rebuild_gaps.proofs.Here.{here-closable}
+use Rattle.rebuild_last_stops.proofs.Spreading.{Spreading, spreading-start, spreading-end, turn-room, turn-fewer, turn-less, turn-call, turn-after}
+use Rattle.rebuild_last_stops.proofs.spread_two.Statement.{statement}
+use Rattle.rebuild_last_stops.proofs.spread_two.Tie as tie
+
+abbrev Inv-loop : tie.InvT-loop
+Inv-loop legs v n prices plan regions gaps all left q stand codes₀ m best₀ found₀ rest₀ codes best found rest =
+    Spreading legs v n prices plan regions left q codes₀ m best₀ found₀ codes best found rest
+
+abbrev μ-loop : tie.MeasureT-loop
+μ-loop legs v n prices plan regions gaps all left q stand codes₀ m best₀ found₀ rest₀ codes best found rest = length (stopsOf rest)
+
+loop-holds : tie.Need-loop-holds Inv-loop μ-loop
+loop-holds c = spreading-start (c .before .before .before .before .before .before .pre .0)
+
+lowest-requires : tie.Need-lowest-requires Inv-loop μ-loop
+lowest-requires c κs = pos-of-ne-zero (c .loop-test .taken)
+
+without-requires : tie.Need-without-requires Inv-loop μ-loop
+without-requires c κs = c .lowest .ensures .small
+
+cast-codes : tie.Need-cast-codes Inv-loop μ-loop
+cast-codes c = let g = c .before .before .before .before .before .before .before .before .before .before .pre .0 in omega (arith, g .here .gap, g .ground .gapped .few)
+
+mul-codes : tie.Need-mul-codes Inv-loop μ-loop
+mul-codes c = let g = c .before .before .before .before .before .before .before .before .before .before .pre .0 in omega (arith, g .here .gap, g .ground .gapped .few)
+
+add-codes : tie.Need-add-codes Inv-loop μ-loop
+add-codes c = let g = c .before .before .before .before .before .before .before .before .before .before .pre .0 in omega (arith, g .here .gap, g .ground .gapped .few, c .before .lowest .ensures .small)
+
+mul-codes-2 : tie.Need-mul-codes-2 Inv-loop μ-loop
+mul-codes-2 c =
+    let g = c .before .before .before .before .before .before .before .before .before .before .pre .0 in
+    let l = c .before .before .before .loop .inv in
+    omega (arith, turn-room g l (c .before .lowest .ensures), l .long, g .short)
+
+slice-write-codes : tie.Need-slice-write-codes Inv-loop μ-loop
+slice-write-codes c = turn-room (c .before .before .before .before .before .before .before .before .before .before .pre .0) (c .before .before .before .loop .inv) (c .before .lowest .ensures)
+
+step-requires : tie.Need-step-requires Inv-loop μ-loop
+step-requires c κs =
+    let a = c .before .before .before .before .before .before .before .before .before .before .args in
+    let g = c .before .before .before .before .before .before .before .before .before .before .pre .0 in
+    let k = here-closable (a .legs .now) (a .v) (a .n) (a .prices) (a .plan .now) (a .regions .now) (a .gaps .now) (g .ground) _ _ (a .q) (a .stand) (g .here) in
+    (g .ground .legs, c .before .lowest .ensures .small, k .near, omega (arith, k .short))
+
+without-requires-2 : tie.Need-without-requires-2 Inv-loop μ-loop
+without-requires-2 c κs = c .before .before .lowest .ensures .small
+
+add-e : tie.Need-add-e Inv-loop μ-loop
+add-e c =
+    let g = c .before .before .before .before .before .before .before .before .before .before .before .before .pre .0 in
+    let l = c .before .before .before .before .before .loop .inv in
+    omega (arith, turn-room g l (c .before .before .before .lowest .ensures), l .long, g .short)
+
+finish-requires : tie.Need-finish-requires Inv-loop μ-loop
+finish-requires c κs =
+    let g = c .before .before .before .before .before .before .before .before .before .before .before .before .before .before .pre .0 in
+    let l = c .before .before .before .before .before .before .before .loop .inv in
+    let f = c .before .before .before .before .before .lowest .ensures in
+    let x = c .before .before .without2 .ensures in
+    (turn-call g l f x (c .before .before .before .step .ensures), omega (arith, c .before .before .before .before .before .before .before .before .before .before .before .before .before .before .pre .1, turn-fewer g l f x))
+
+loop-less : tie.Need-loop-less Inv-loop μ-loop
+loop-less c = turn-less (c .before .before .before .before .before .before .before .before .before .before .before .before .before .before .before .before .before .before .before .pre .0) (c .before .before .before .before .before .before .before .before .before .before .before .before .loop .inv) (c .before .before .before .before .before .before .before .before .before .before .lowest .ensures) (c .before .before .before .before .before .before .before .before .before .without .ensures)
+
+loop-again : tie.Need-loop-again Inv-loop μ-loop
+loop-again c =
+    let k = c .before .before .before .before .finish in
+    turn-after (c .before .before .before .before .before .before .before .before .before .before .before .before .before .before .before .before .before .before .before .pre .0) (c .before .before .before .before .before .before .before .before .before .before .before .before .loop .inv) (c .before .before .before .before .before .before .before .before .before .before .lowest .ensures) (c .before .before .before .before .before .before .before .without2 .ensures) (k .last .1 .1 .1 .1 .1 .1 .1 .1 .1 .1 .1 .0) {best′ = k .last .1 .1 .1 .1 .1 .1 .1 .1 .1 .1 .1 .1 .1 .0} (c .before .before .before .before .before .before .before .before .before .without .ensures) (k .ensures .0) (k .ensures .1)
+    (k .kept .1 .1 .1 .1 .1 .1 .1 .1 .1 .1 .1 .0) (k .kept .1 .1 .1 .1 .1 .1 .1 .1 .1 .1 .1 .1 .1 .0)
+
+same-length : tie.Need-same-length Inv-loop μ-loop
+same-length c = c .before .loop .inv .long
+
+same-length-2 : tie.Need-same-length-2 Inv-loop μ-loop
+same-length-2 c = c .before .loop .inv .bests
+
+returns : tie.Need-returns Inv-loop μ-loop
+returns c =
+    let l = c .before .loop .inv in
+    (spreading-end (c .before .before .before .before .before .before .before .before .pre .0) l (ap stopsOf (c .loop-test .left) ∙ stops-none), l .same)
+
+pub spread-two-spec : {M : Type 1} → statement M
+spread-two-spec =
+    tie.close
+    (tie.spec
+    Inv-loop
+    μ-loop
+    loop-holds
+    lowest-requires
+    without-requires
+    cast-codes
+    mul-codes
+    add-codes
+    mul-codes-2
+    slice-write-codes
+    step-requires
+    without-requires-2
+    add-e
+    finish-requires
+    loop-less
+    loop-again
+    same-length
+    same-length-2
+    returns)

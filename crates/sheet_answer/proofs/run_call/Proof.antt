@@ -1,0 +1,85 @@
+-- `sheet_answer::run_call` meets its contract.
+use borrow.Author.Needs.{needs}
+use mathlib.Core.Path.{refl}
+use mathlib.Core.List.{[]}
+use Rattle.sheet_answer.proofs.Ran.{ran-weigh, ran-start, ran-solve}
+use Rattle.sheet_answer.proofs.run_call.Statement.{statement}
+use Rattle.sheet_answer.proofs.run_call.Tie as tie
+
+weigh-requires : tie.Need-weigh-requires
+weigh-requires c κs = search needs
+
+same-length : tie.Need-same-length
+same-length c = search needs
+
+same-length-2 : tie.Need-same-length-2
+same-length-2 c = search needs
+
+returns : tie.Need-returns
+returns c =
+    let s = c .before .before .before .before .before .before .before .before .before .before .before .before .before in
+    ran-weigh _ _ _ (s .args .call) (s .args .given .now) (s .args .plan .now) [] _ (c .before .before .before .before .before .if1 .taken) (c .before .before .weigh .ensures)
+
+start-plan-requires : tie.Need-start-plan-requires
+start-plan-requires c κs = search needs
+
+same-length-3 : tie.Need-same-length-3
+same-length-3 c = search needs
+
+same-length-4 : tie.Need-same-length-4
+same-length-4 c = search needs
+
+returns-2 : tie.Need-returns-2
+returns-2 c =
+    let s = c .before .before .before .before .before .before .before .before .before .before .before .before .before .before .before .before in
+    let f = c .before .before .before .before .start-plan .ensures in
+    ran-start _ _ _ (s .args .call) (s .args .given .now) (s .args .plan .now) _ _ (c .before .before .before .before .before .before .before .if2 .taken) (f .1) (f .0)
+
+solve-requires : tie.Need-solve-requires
+solve-requires c κs = search needs
+
+same-length-5 : tie.Need-same-length-5
+same-length-5 c = search needs
+
+same-length-6 : tie.Need-same-length-6
+same-length-6 c = search needs
+
+returns-3 : tie.Need-returns-3
+returns-3 c =
+    let s = c .before .before .before .before .before .before .before .before .before .before .before .before .before .before .before .before .before in
+    let f = c .before .before .before .before .solve .ensures in
+    ran-solve _ _ _ (s .args .call) (s .args .given .now) (s .args .plan .now) _ _ (c .before .before .before .before .before .before .before .if3 .taken) (f .1) (f .0)
+
+run-priced-requires : tie.Need-run-priced-requires
+run-priced-requires c κs = search needs
+
+same-length-7 : tie.Need-same-length-7
+same-length-7 c = search needs
+
+same-length-8 : tie.Need-same-length-8
+same-length-8 c = search needs
+
+returns-4 : tie.Need-returns-4
+returns-4 c =
+    c .before .before .before .before .run-priced .ensures _ refl
+
+pub run-call-spec : {M : Type 1} → statement M
+run-call-spec =
+    tie.close
+    (tie.spec
+    weigh-requires
+    same-length
+    same-length-2
+    returns
+    start-plan-requires
+    same-length-3
+    same-length-4
+    returns-2
+    solve-requires
+    same-length-5
+    same-length-6
+    returns-3
+    run-priced-requires
+    same-length-7
+    same-length-8
+    returns-4)

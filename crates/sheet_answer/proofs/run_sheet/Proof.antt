@@ -1,0 +1,132 @@
+-- `sheet_answer::run_sheet` meets its contract.
+use borrow.Author.Needs.{needs}
+use native.Mathlib.Omega.{arith}
+use Rattle.file_job.specs.Reading.{buffers}
+use Rattle.sheet_answer.proofs.Held.{plan-within, runs, sheet-prints}
+use Rattle.sheet_answer.proofs.run_sheet.Statement.{statement}
+use Rattle.sheet_answer.proofs.run_sheet.Tie as tie
+
+mul-ends : tie.Need-mul-ends
+mul-ends c = search needs
+
+cast-l : tie.Need-cast-l
+cast-l c = search needs
+
+mul-entries : tie.Need-mul-entries
+mul-entries c = search needs
+
+add-plan-length : tie.Need-add-plan-length
+add-plan-length c = search needs
+
+plan-length-requires : tie.Need-plan-length-requires
+plan-length-requires c κs = search needs
+
+sub-run-call : tie.Need-sub-run-call
+sub-run-call c = search needs
+
+part-run-call-start : tie.Need-part-run-call-start
+part-run-call-start c = search needs
+
+part-run-call-end : tie.Need-part-run-call-end
+part-run-call-end c = search needs
+
+sub-run-call-2 : tie.Need-sub-run-call-2
+sub-run-call-2 c = search needs
+
+part-run-call-start-2 : tie.Need-part-run-call-start-2
+part-run-call-start-2 c = search needs
+
+part-run-call-end-2 : tie.Need-part-run-call-end-2
+part-run-call-end-2 c =
+    let s = c .before .before .before .before .before .before .before .before .before .before .before .before in
+    omega (arith, s .pre .bounds .stops, s .pre .bounds .lists .stops)
+
+sub-run-call-3 : tie.Need-sub-run-call-3
+sub-run-call-3 c = search needs
+
+part-run-call-start-3 : tie.Need-part-run-call-start-3
+part-run-call-start-3 c = search needs
+
+part-run-call-end-3 : tie.Need-part-run-call-end-3
+part-run-call-end-3 c =
+    let s = c .before .before .before .before .before .before .before .before .before .before .before .before .before in
+    omega (arith, s .pre .bounds .entries, s .pre .bounds .lists .distances)
+
+sub-run-call-4 : tie.Need-sub-run-call-4
+sub-run-call-4 c = search needs
+
+part-run-call-start-4 : tie.Need-part-run-call-start-4
+part-run-call-start-4 c = search needs
+
+part-run-call-end-4 : tie.Need-part-run-call-end-4
+part-run-call-end-4 c =
+    let s = c .before .before .before .before .before .before .before .before .before .before .before .before .before .before in
+    omega (arith, s .pre .bounds .draws, s .pre .bounds .lists .draws)
+
+sub-run-call-5 : tie.Need-sub-run-call-5
+sub-run-call-5 c = search needs
+
+part-run-call-start-5 : tie.Need-part-run-call-start-5
+part-run-call-start-5 c = search needs
+
+part-run-call-end-5 : tie.Need-part-run-call-end-5
+part-run-call-end-5 c = search needs
+
+sub-run-call-6 : tie.Need-sub-run-call-6
+sub-run-call-6 c = search needs
+
+part-run-call-start-6 : tie.Need-part-run-call-start-6
+part-run-call-start-6 c = search needs
+
+part-run-call-end-6 : tie.Need-part-run-call-end-6
+part-run-call-end-6 c =
+    let s = c .before .before .before .before .before .before .before .before .before .before .before .before .before .before .before .before in
+    omega (arith, plan-within (s .args .head) (s .args .h) (buffers (s .args .vehicles .now) (s .args .stops .now) (s .args .distances .now) (s .args .draws .now)) (s .args .given .now) (s .args .plan .now) (s .args .out .now) (s .pre) _ (c .before .before .before .before .before .plan-length .ensures))
+
+run-call-requires : tie.Need-run-call-requires
+run-call-requires c κs =
+    let s = c .before .before .before .before .before .before .before .before .before .before .before .before .before .before .before .before .before .before in
+    runs (s .args .head) (s .args .h) (buffers (s .args .vehicles .now) (s .args .stops .now) (s .args .distances .now) (s .args .draws .now)) (s .args .given .now) (s .args .plan .now) (s .args .out .now) (s .pre) _ (c .before .before .before .before .before .before .before .plan-length .ensures)
+
+same-length : tie.Need-same-length
+same-length c = search needs
+
+same-length-2 : tie.Need-same-length-2
+same-length-2 c = search needs
+
+returns : tie.Need-returns
+returns c =
+    let s = c .before .before .before .before .before .before .before .before .before .before .before .before .before .before .before .before .before .before .before .before .before .before .before in
+    sheet-prints (s .args .head) (s .args .h) (buffers (s .args .vehicles .now) (s .args .stops .now) (s .args .distances .now) (s .args .draws .now)) (s .args .given .now) (s .args .plan .now) (s .args .out .now) (s .pre) _ (c .before .before .before .before .before .before .before .before .before .before .before .before .plan-length .ensures) _ _ _ (c .before .before .before .before .run-call .ensures)
+
+pub run-sheet-spec : {M : Type 1} → statement M
+run-sheet-spec =
+    tie.close
+    (tie.spec
+    mul-ends
+    cast-l
+    mul-entries
+    add-plan-length
+    plan-length-requires
+    sub-run-call
+    part-run-call-start
+    part-run-call-end
+    sub-run-call-2
+    part-run-call-start-2
+    part-run-call-end-2
+    sub-run-call-3
+    part-run-call-start-3
+    part-run-call-end-3
+    sub-run-call-4
+    part-run-call-start-4
+    part-run-call-end-4
+    sub-run-call-5
+    part-run-call-start-5
+    part-run-call-end-5
+    sub-run-call-6
+    part-run-call-start-6
+    part-run-call-end-6
+    run-call-requires
+    same-length
+    same-length-2
+    returns)

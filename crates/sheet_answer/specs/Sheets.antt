@@ -1,0 +1,86 @@
+-- Call sheets: their written form, which are read, and what is printed for one.
+use mathlib.Core.Path.{_≡_}
+use Prim.Native.Nat.{ℕ, _+_, _≤_}
+use mathlib.Core.Bool.{cond}
+use mathlib.Core.List.{List, [], _++_}
+use lib.Dec.{eqb}
+use lib.ListN.{length}
+use Rattle.model.specs.Job.{Job, jobOf}
+use Rattle.model.specs.Run.{Task}
+use Rattle.model.specs.File.{fileOf, Readable, Stands}
+use Rattle.model.specs.Refusals.{Arguments, asking, Call, Weigh, StartPlan, TwoOpt, Rebuild, Exhaustive, Pruned, Solve}
+use Rattle.model.specs.Calls.{costAnswer, startAnswer, solveAnswer, planLeft}
+use Rattle.call_refusals.specs.Asked.{unpriced, running}
+use Rattle.shuttle_answers.specs.Answers.{blank}
+use Rattle.sheet_head.specs.Form.{hasGiven, leastGiven, mostGiven, hasPlan, headOf, ListFor}
+use Rattle.sheet_lines.specs.Printed.{printedWeight, printedStart, printedWeighed, printedSolved, longestPlan}
+
+-- a call's number, the given stops, the plan that is lent, and a task
+pub record Sheet : Type 0 where
+  pub call : ℕ
+  pub given : List ℕ
+  pub plan : List ℕ
+  pub task : Task
+
+-- ---- the form of a sheet
+
+-- 1 weigh, 2 start_plan, 3 two_opt, 4 rebuild, 5 exhaustive, 6 pruned, 7 solve
+abbrev pub callOf : ℕ → Call
+callOf n =
+    cond (eqb n 1) Weigh
+    (cond (eqb n 2) StartPlan
+    (cond (eqb n 3) TwoOpt
+    (cond (eqb n 4) Rebuild
+    (cond (eqb n 5) Exhaustive
+    (cond (eqb n 6) Pruned Solve)))))
+
+-- the written form of a sheet
+unfoldable pub sheetOf : Sheet → List ℕ
+sheetOf S = headOf (S .call) (S .given) (S .plan) ++ fileOf (S .task)
+
+-- ---- which sheets are read
+
+-- a call without a plan line is lent v + n zeros
+pub record ReadableSheet (S : Sheet) : Type 0 where
+  pub first : 1 ≤ S .call
+  pub last : S .call ≤ 7
+  pub given : ListFor (hasGiven (S .call)) (leastGiven (S .call)) (mostGiven (S .call)) [] (S .given)
+  pub plan : ListFor (hasPlan (S .call)) 0 longestPlan (blank (S .task .job)) (S .plan)
+  pub task : Readable (S .task)
+
+-- a sheet stands in the bytes from one position up to another
+pub record SheetAt (bytes : List ℕ) (from to : ℕ) (S : Sheet) : Type 0 where
+  pub stands : Stands bytes from (sheetOf S)
+  pub end : to ≡ from + length (sheetOf S)
+  pub readable : ReadableSheet S
+
+-- the most bytes that a sheet has: its number's line, 8 given stops, a plan of 96 numbers, and the longest job file
+abbrev pub longestSheet : ℕ
+longestSheet = 15 + 113 + 1345 + 106592
+
+-- ---- what is printed for a sheet
+
+-- a job for a call that knows no prices
+abbrev pub priceless : Job → Job
+priceless J = jobOf (J .vehicles) (J .stops) (J .locations) (J .distances) unpriced
+
+-- a cost and the plan that the call leaves
+abbrev pub printedCosts : Call → Arguments → List ℕ
+printedCosts c A = printedWeighed (costAnswer c A) (planLeft c A)
+
+-- what each call prints, given these stops, this plan and this task
+unfoldable pub printedCall : Call → List ℕ → List ℕ → Task → List ℕ
+printedCall Weigh given plan T = printedWeight (costAnswer Weigh (asking (T .job) plan []))
+printedCall StartPlan given plan T =
+    let A = asking (priceless (T .job)) plan [] in
+    printedStart (startAnswer A) (planLeft StartPlan A)
+printedCall TwoOpt given plan T = printedCosts TwoOpt (asking (T .job) plan given)
+printedCall Rebuild given plan T = printedCosts Rebuild (asking (T .job) plan given)
+printedCall Exhaustive given plan T = printedCosts Exhaustive (asking (T .job) plan [])
+printedCall Pruned given plan T = printedCosts Pruned (asking (T .job) plan [])
+printedCall Solve given plan T =
+    let A = running (T .job) (T .smoothing) (T .limit) (T .draws) plan in
+    printedSolved (solveAnswer A) (planLeft Solve A)
+
+abbrev pub printedSheet : Sheet → List ℕ
+printedSheet S = printedCall (callOf (S .call)) (S .given) (S .plan) (S .task)

@@ -1,0 +1,63 @@
+-- Lines of numbers in 14 columns, and the line of a cost.
+use mathlib.Core.Path.{_≡_, refl, sym, _∙_, ap}
+use mathlib.Core.List.{List, [], _∷_, _++_, append-nil}
+use Prim.Native.Nat.{ℕ, suc, _+_, _*_, _^_, _≤_, _<_}
+use native.Mathlib.Nat.{zero-add}
+use native.Mathlib.Numerals.{add-one}
+use native.Mathlib.Omega.{arith}
+use lib.Ieee.{Float}
+use lib.ListN.{length, take, getD, set, length-append, length-take}
+use lib.Seq.{take-suc, take-all}
+use Rattle.model.specs.Whole.{amount}
+use Rattle.model.specs.File.{lineFeed, columns, fields, line, printedRefusal}
+use Rattle.model.proofs.Columns.{columns-length}
+use Rattle.model.proofs.Pieces.{Fitting, fitting-take, fields-length, fields-one, fields-append, line-length}
+use Rattle.file_columns.specs.Put.{written}
+use Rattle.file_columns.proofs.Puts.{written-nil}
+use Rattle.file_printing.specs.Printing.{Prints}
+use Rattle.sheet_printing.specs.Costs.{printedCost}
+use Rattle.file_printing.proofs.Pieces.{after, line-feed, amount-small, refusal-printed}
+
+module _ (old : List ℕ) (at : ℕ) (list : List ℕ) (f : Fitting list) (room : at + (14 * length list + 1) ≤ length old) where
+  pub list-none : old ≡ written old at (fields 14 (take 0 list))
+  unfolding fields
+  list-none = sym (written-nil old at)
+
+  part-length : (i : ℕ) → i ≤ length list → length (fields 14 (take i list)) ≡ 14 * i
+  part-length i h = fields-length (take i list) (fitting-take i f) ∙ ap (λ k. 14 * k) (length-take-le i h)
+    where
+      length-take-le : (i : ℕ) → i ≤ length list → length (take i list) ≡ i
+      length-take-le i h = omega (arith, length-take i list)
+
+  pub list-more : (i : ℕ) (a b : List ℕ) → i < length list → a ≡ written old at (fields 14 (take i list))
+      → b ≡ written a (at + 14 * i) (columns 14 (getD list i 0)) → b ≡ written old at (fields 14 (take (i + 1) list))
+  list-more i a b h e g =
+      rw (add-one, take-suc list i 0, fields-append, fields-one)
+      (after old a b at (14 * i) (fields 14 (take i list)) (columns 14 (getD list i 0)) (part-length i (omega arith)) (omega arith) e g)
+
+  pub list-line : (i : ℕ) (a : List ℕ) → length list ≤ i → i ≤ length list → a ≡ written old at (fields 14 (take i list))
+      → set a (at + 14 * i) lineFeed ≡ written old at (line 14 list)
+  unfolding line
+  list-line i a g h e =
+      line-feed old a at (14 * i) (fields 14 (take i list)) (part-length i h) (omega arith) e
+      ∙ ap (λ l. written old at (fields 14 l ++ (lineFeed ∷ []))) (take-all i list g)
+
+pub cost-line : (c : Float) (w : ℕ) (old a : List ℕ) → w ≡ amount c → 21 ≤ length old → a ≡ written old 0 (columns 20 w)
+    → set a 20 lineFeed ≡ written old 0 (printedCost c)
+unfolding printedCost printedRefusal
+cost-line c w old a e room h = refusal-printed (amount c) old a (amount-small c) room (h ∙ ap (λ k. written old 0 (columns 20 k)) e) .same
+
+pub cost-length : (c : Float) → length (printedCost c) ≡ 21
+unfolding printedCost line fields
+cost-length c = simp (length-append, append-nil, columns-length 19 (amount c) (amount-small c))
+
+pub one-piece : (old new text : List ℕ) (k : ℕ) → length text ≡ k → new ≡ written old 0 text → Prints old new k text
+one-piece old new text k l e = record { count = sym l; same = e }
+
+pub two-pieces : (old a new first second : List ℕ) (j k r : ℕ) → length first ≡ j → length second ≡ k → r ≡ j + k → r ≤ length old
+    → a ≡ written old 0 first → new ≡ written a j second → Prints old new r (first ++ second)
+two-pieces old a new first second j k r l m h room e g =
+    record {
+      count = omega (arith, length-append first second);
+      same = after old a new 0 j first second l (omega arith) e (rw zero-add g);
+    }

@@ -1,0 +1,32 @@
+-- `sheet_printing::print_totals_and_list` meets its contract.
+use native.Mathlib.Omega.{arith}
+use borrow.Author.Needs.{needs}
+use Rattle.model.proofs.Pieces.{line-length}
+use Rattle.sheet_printing.proofs.ListLines.{two-pieces}
+use Rattle.file_printing.proofs.Pieces.{totals-length}
+use Rattle.sheet_printing.proofs.print_totals_and_list.Statement.{statement}
+use Rattle.sheet_printing.proofs.print_totals_and_list.Tie as tie
+
+put-totals-requires : tie.Need-put-totals-requires
+put-totals-requires c κs = search needs
+
+put-list-requires : tie.Need-put-list-requires
+put-list-requires c κs = search needs
+
+mul-result : tie.Need-mul-result
+mul-result c = search needs
+
+add-result : tie.Need-add-result
+add-result c = search needs
+
+same-length : tie.Need-same-length
+same-length c = search needs
+
+returns : tie.Need-returns
+returns c =
+    two-pieces _ _ _ _ _ _ _ _ (totals-length _ (omega arith) (omega arith)) (line-length _ (record { fits = λ i. omega (arith, c .before .before .before .before .before .before .before .before .before .shared-slice-known .given i) })) (omega arith) (omega arith) (c .before .before .before .before .before .before .put-totals .ensures) (c .before .before .put-list .ensures)
+
+pub print-totals-and-list-spec : {M : Type 1} → statement M
+print-totals-and-list-spec =
+    tie.close
+    (tie.spec put-totals-requires put-list-requires mul-result add-result same-length returns)

@@ -1,0 +1,75 @@
+// The lines that the program prints for the answer of a single call: a cost, a plan, the numbers of a run.
+use model::Totals;
+ghost use mathlib.Core.Path.{_≡_};
+ghost use mathlib.Core.List.{_++_};
+ghost use Prim.Native.Nat.{ℕ, _+_, _*_, _≤_};
+ghost use lib.ListN.{length};
+ghost use Rattle.model.specs.File.{line};
+ghost use Rattle.model.specs.Whole.{IsWhole};
+ghost use Rattle.file_columns.specs.Put.{written};
+ghost use Rattle.file_printing.specs.Printing.{printedTotals, Priced, Prints};
+ghost use Rattle.sheet_printing.specs.Costs.{printedCost};
+
+// A line of numbers in 14 columns each, from a position on.
+fn put_list(out: &mut [u8], at: usize, list: &[u32])
+    requires { ⌜ at + (14 * length (now list) + 1) ≤ length (now out) ⌝ }
+    ensures { λ _. ⌜ now (out .exit) ≡ written (now (out .entry)) at (line 14 (now (list .entry))) ⌝ }
+{
+    let mut i: usize = 0;
+    while i < list.len() {
+        file_columns::put_number(out, at + 14 * i, 14, list[i] as u64);
+        i += 1;
+    }
+    out[at + 14 * i] = b'\n';
+}
+
+// The line of a cost.
+fn put_cost(out: &mut [u8], c: f64)
+    requires { ⌜ 21 ≤ length (now out) ⌝ }
+    requires { ⌜ IsWhole c ⌝ }
+    ensures { λ _. ⌜ now (out .exit) ≡ written (now (out .entry)) 0 (printedCost c) ⌝ }
+{
+    file_columns::put_number(out, 0, 20, whole::to_whole(c));
+    out[20] = b'\n';
+}
+
+// What is printed for a cost alone: how many bytes it is.
+pub fn print_cost(c: f64, out: &mut [u8]) -> usize
+    requires { ⌜ 21 ≤ length (now out) ⌝ }
+    requires { ⌜ IsWhole c ⌝ }
+    ensures { λ r. ⌜ Prints (now (out .entry)) (now (out .exit)) r (printedCost c) ⌝ }
+{
+    put_cost(out, c);
+    21
+}
+
+// For a plan alone.
+pub fn print_list(list: &[u32], out: &mut [u8]) -> usize
+    requires { ⌜ 14 * length (now list) + 1 ≤ length (now out) ⌝ }
+    ensures { λ r. ⌜ Prints (now (out .entry)) (now (out .exit)) r (line 14 (now (list .entry))) ⌝ }
+{
+    put_list(out, 0, list);
+    14 * list.len() + 1
+}
+
+// For a cost and a plan.
+pub fn print_cost_and_list(c: f64, list: &[u32], out: &mut [u8]) -> usize
+    requires { ⌜ 14 * length (now list) + 22 ≤ length (now out) ⌝ }
+    requires { ⌜ IsWhole c ⌝ }
+    ensures { λ r. ⌜ Prints (now (out .entry)) (now (out .exit)) r (printedCost c ++ line 14 (now (list .entry))) ⌝ }
+{
+    put_cost(out, c);
+    put_list(out, 21, list);
+    14 * list.len() + 22
+}
+
+// For the numbers of a run and a plan.
+pub fn print_totals_and_list(t: Totals, list: &[u32], out: &mut [u8]) -> usize
+    requires { ⌜ 14 * length (now list) + 102 ≤ length (now out) ⌝ }
+    requires { ⌜ Priced t ⌝ }
+    ensures { λ r. ⌜ Prints (now (out .entry)) (now (out .exit)) r (printedTotals t ++ line 14 (now (list .entry))) ⌝ }
+{
+    file_printing::put_totals(out, 0, t);
+    put_list(out, 101, list);
+    14 * list.len() + 102
+}
