@@ -1,2 +1,4 @@
 pub mod Order
 pub mod Passed
+pub mod Accepted
+pub mod Answers

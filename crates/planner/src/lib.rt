@@ -1,17 +1,203 @@
 // The public calls, under one name. Each tests its arguments and answers what `Calls` of model defines: a refusal by its number, with
 // the lent plan as it was, or the values, with the new plan in the lent one. None has a precondition.
+ghost use mathlib.Core.Path.{_≡_};
+ghost use mathlib.Core.List.{[], _∷_};
+ghost use Rattle.model.specs.Job.{jobOf};
+ghost use Rattle.model.specs.Refusals.{asking, Weigh, StartPlan, TwoOpt, Rebuild, Exhaustive, Pruned, Solve};
+ghost use Rattle.model.specs.Calls.{costAnswer, startAnswer, planLeft, solveAnswer};
+ghost use Rattle.call_refusals.specs.Asked.{unpriced, running};
+ghost use Rattle.planner.specs.Kept.{Keeps};
+use model::Prices;
+use model::Solved;
+use model::Weighed;
+use model::Written;
 
-// The cost of a plan; the start plan.
-pub use plan_calls::start_plan;
-pub use plan_calls::weigh;
+// Weighs a plan.
+pub fn weigh(
+    vehicles: &[u32],
+    stops: &[u32],
+    locations: u32,
+    distances: &[u32],
+    prices: Prices,
+    plan: &[u32],
+) -> Weighed
+    ensures { λ r. ⌜ r ≡ costAnswer Weigh (asking (jobOf (now (vehicles .entry)) (now (stops .entry)) locations (now (distances .entry)) prices) (now (plan .entry)) []) ⌝ }
+{
+    let refused = call_refusals::of_weigh(vehicles, stops, locations, distances, prices, plan);
+    if refused != 0 {
+        return Weighed::Refused(refused);
+    }
+    let mut legs = [0u32; 6400];
+    distance::leg_table(vehicles, stops, locations, distances, &mut legs);
+    let v = vehicles.len() / 2;
+    Weighed::Cost(delivery::cost(&legs, v, stops.len(), prices, plan))
+}
 
-// One move: the two-opt move of a pair of stops; the rebuild round one or two stops.
-pub use move_calls::rebuild;
-pub use move_calls::two_opt;
+// Writes the start plan.
+pub fn start_plan(
+    vehicles: &[u32],
+    stops: &[u32],
+    locations: u32,
+    distances: &[u32],
+    plan: &mut [u32],
+) -> Written
+    ensures { λ r. ⌜ r ≡ startAnswer (asking (jobOf (now (vehicles .entry)) (now (stops .entry)) locations (now (distances .entry)) unpriced) (now (plan .entry)) []) ⌝ }
+    ensures { λ _. ⌜ now (plan .exit) ≡ planLeft StartPlan (asking (jobOf (now (vehicles .entry)) (now (stops .entry)) locations (now (distances .entry)) unpriced) (now (plan .entry)) []) ⌝ }
+{
+    let refused = call_refusals::of_start_plan(vehicles, stops, locations, distances, plan);
+    if refused != 0 {
+        return Written::Refused(refused);
+    }
+    let mut legs = [0u32; 6400];
+    distance::leg_table(vehicles, stops, locations, distances, &mut legs);
+    let v = vehicles.len() / 2;
+    nearest_neighbor::start_plan(&legs, v, stops.len(), plan);
+    Written::Done
+}
 
-// The best plan of a small job, by all arrangements, or by appends that a bound cuts.
-pub use exact_calls::exhaustive;
-pub use exact_calls::pruned;
+// Improves a plan by the two-opt move of one pair of stops, and weighs it.
+pub fn two_opt(
+    vehicles: &[u32],
+    stops: &[u32],
+    locations: u32,
+    distances: &[u32],
+    prices: Prices,
+    plan: &mut [u32],
+    first: u32,
+    second: u32,
+) -> Weighed
+    ensures { λ r. ⌜ r ≡ costAnswer TwoOpt (asking (jobOf (now (vehicles .entry)) (now (stops .entry)) locations (now (distances .entry)) prices) (now (plan .entry)) (first ∷ second ∷ [])) ⌝ }
+    ensures { λ _. ⌜ now (plan .exit) ≡ planLeft TwoOpt (asking (jobOf (now (vehicles .entry)) (now (stops .entry)) locations (now (distances .entry)) prices) (now (plan .entry)) (first ∷ second ∷ [])) ⌝ }
+{
+    let both = [first, second];
+    let refused = call_refusals::of_rebuild(
+        vehicles,
+        stops,
+        locations,
+        distances,
+        prices,
+        plan,
+        &both,
+    );
+    if refused != 0 {
+        return Weighed::Refused(refused);
+    }
+    let mut legs = [0u32; 6400];
+    distance::leg_table(vehicles, stops, locations, distances, &mut legs);
+    let v = vehicles.len() / 2;
+    let n = stops.len();
+    two_opt::pair(&legs, v, n, prices, plan, first, second);
+    Weighed::Cost(delivery::cost(&legs, v, n, prices, plan))
+}
 
-// A whole run. Its contract has the promise about whole runs too (`Keeps`).
-pub use run_calls::solve;
+// Rebuilds a plan round one or two stops, and weighs it.
+pub fn rebuild(
+    vehicles: &[u32],
+    stops: &[u32],
+    locations: u32,
+    distances: &[u32],
+    prices: Prices,
+    plan: &mut [u32],
+    given: &[u32],
+) -> Weighed
+    ensures { λ r. ⌜ r ≡ costAnswer Rebuild (asking (jobOf (now (vehicles .entry)) (now (stops .entry)) locations (now (distances .entry)) prices) (now (plan .entry)) (now (given .entry))) ⌝ }
+    ensures { λ _. ⌜ now (plan .exit) ≡ planLeft Rebuild (asking (jobOf (now (vehicles .entry)) (now (stops .entry)) locations (now (distances .entry)) prices) (now (plan .entry)) (now (given .entry))) ⌝ }
+{
+    let refused = call_refusals::of_rebuild(
+        vehicles,
+        stops,
+        locations,
+        distances,
+        prices,
+        plan,
+        given,
+    );
+    if refused != 0 {
+        return Weighed::Refused(refused);
+    }
+    let mut legs = [0u32; 6400];
+    distance::leg_table(vehicles, stops, locations, distances, &mut legs);
+    let v = vehicles.len() / 2;
+    Weighed::Cost(rebuild::rebuild(&legs, v, stops.len(), prices, plan, given))
+}
+
+// Writes the plan that the exhaustive solver chooses, and weighs it.
+pub fn exhaustive(
+    vehicles: &[u32],
+    stops: &[u32],
+    locations: u32,
+    distances: &[u32],
+    prices: Prices,
+    plan: &mut [u32],
+) -> Weighed
+    ensures { λ r. ⌜ r ≡ costAnswer Exhaustive (asking (jobOf (now (vehicles .entry)) (now (stops .entry)) locations (now (distances .entry)) prices) (now (plan .entry)) []) ⌝ }
+    ensures { λ _. ⌜ now (plan .exit) ≡ planLeft Exhaustive (asking (jobOf (now (vehicles .entry)) (now (stops .entry)) locations (now (distances .entry)) prices) (now (plan .entry)) []) ⌝ }
+{
+    let refused = call_refusals::of_exhaustive(vehicles, stops, locations, distances, prices, plan);
+    if refused != 0 {
+        return Weighed::Refused(refused);
+    }
+    let mut legs = [0u32; 6400];
+    distance::leg_table(vehicles, stops, locations, distances, &mut legs);
+    let v = vehicles.len() / 2;
+    Weighed::Cost(exhaustive::exhaustive(&legs, v, stops.len(), prices, plan))
+}
+
+// Writes the plan that the pruned solver chooses, and weighs it.
+pub fn pruned(
+    vehicles: &[u32],
+    stops: &[u32],
+    locations: u32,
+    distances: &[u32],
+    prices: Prices,
+    plan: &mut [u32],
+) -> Weighed
+    ensures { λ r. ⌜ r ≡ costAnswer Pruned (asking (jobOf (now (vehicles .entry)) (now (stops .entry)) locations (now (distances .entry)) prices) (now (plan .entry)) []) ⌝ }
+    ensures { λ _. ⌜ now (plan .exit) ≡ planLeft Pruned (asking (jobOf (now (vehicles .entry)) (now (stops .entry)) locations (now (distances .entry)) prices) (now (plan .entry)) []) ⌝ }
+{
+    let refused = call_refusals::of_exhaustive(vehicles, stops, locations, distances, prices, plan);
+    if refused != 0 {
+        return Weighed::Refused(refused);
+    }
+    let mut legs = [0u32; 6400];
+    distance::leg_table(vehicles, stops, locations, distances, &mut legs);
+    let v = vehicles.len() / 2;
+    Weighed::Cost(pruned::pruned(&legs, v, stops.len(), prices, plan))
+}
+
+// Runs the planner: the start plan, and rounds up to the end rule. The plan that is left keeps the promise about whole runs.
+pub fn solve(
+    vehicles: &[u32],
+    stops: &[u32],
+    locations: u32,
+    distances: &[u32],
+    prices: Prices,
+    smoothing: u32,
+    limit: u32,
+    draws: &[u32],
+    plan: &mut [u32],
+) -> Solved
+    ensures { λ r. ⌜ r ≡ solveAnswer (running (jobOf (now (vehicles .entry)) (now (stops .entry)) locations (now (distances .entry)) prices) smoothing limit (now (draws .entry)) (now (plan .entry))) ⌝ }
+    ensures { λ _. ⌜ now (plan .exit) ≡ planLeft Solve (running (jobOf (now (vehicles .entry)) (now (stops .entry)) locations (now (distances .entry)) prices) smoothing limit (now (draws .entry)) (now (plan .entry))) ⌝ }
+    ensures { λ r. ⌜ Keeps (running (jobOf (now (vehicles .entry)) (now (stops .entry)) locations (now (distances .entry)) prices) smoothing limit (now (draws .entry)) (now (plan .entry))) r (now (plan .exit)) ⌝ }
+{
+    let number = call_refusals::of_solve(
+        vehicles,
+        stops,
+        locations,
+        distances,
+        prices,
+        smoothing,
+        limit,
+        draws,
+        plan,
+    );
+    if number != 0 {
+        return Solved::Refused(number);
+    }
+    let mut legs = [0u32; 6400];
+    distance::leg_table(vehicles, stops, locations, distances, &mut legs);
+    let v = vehicles.len() / 2;
+    let n = stops.len();
+    Solved::Ran(ruin_and_recreate::run(&legs, v, n, prices, smoothing, limit, draws, plan))
+}

@@ -14,7 +14,7 @@ use Rattle.model.specs.declared.Solved.{Solved}
 use Rattle.model.specs.declared.Solved.the-variants as S
 use Rattle.model.specs.Calls.{saidByWeighed, saidByWritten, saidBySolved}
 use Rattle.model.specs.Refusals.{Arguments}
-use Rattle.run_calls.specs.Kept.{Keeps}
+use Rattle.planner.specs.Kept.{Keeps}
 use Rattle.planner_ffi.specs.Border.{costLeft, Results, results, resultsLeft}
 
 -- ---- a cost

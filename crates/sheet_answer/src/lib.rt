@@ -41,7 +41,7 @@ fn run_priced(
     if call == 3 {
         let first = given[0];
         let second = given[1];
-        return move_sheets::two_opt(
+        return sheet_calls::two_opt(
             vehicles,
             stops,
             locations,
@@ -54,7 +54,7 @@ fn run_priced(
         );
     }
     if call == 4 {
-        return move_sheets::rebuild(
+        return sheet_calls::rebuild(
             vehicles,
             stops,
             locations,
@@ -66,9 +66,9 @@ fn run_priced(
         );
     }
     if call == 5 {
-        return exact_sheets::exhaustive(vehicles, stops, locations, distances, prices, plan, out);
+        return sheet_calls::exhaustive(vehicles, stops, locations, distances, prices, plan, out);
     }
-    exact_sheets::pruned(vehicles, stops, locations, distances, prices, plan, out)
+    sheet_calls::pruned(vehicles, stops, locations, distances, prices, plan, out)
 }
 
 // Runs the call of a number and prints its answer: how many bytes it is.
@@ -91,13 +91,13 @@ fn run_call(
         (taskOn (now (vehicles .entry)) (now (stops .entry)) locations (now (distances .entry)) prices smoothing limit (now (draws .entry)))) ⌝ }
 {
     if call == 1 {
-        return plan_sheets::weigh(vehicles, stops, locations, distances, prices, plan, out);
+        return sheet_calls::weigh(vehicles, stops, locations, distances, prices, plan, out);
     }
     if call == 2 {
-        return plan_sheets::start_plan(vehicles, stops, locations, distances, plan, out);
+        return sheet_calls::start_plan(vehicles, stops, locations, distances, plan, out);
     }
     if call == 7 {
-        return run_sheets::solve(
+        return sheet_calls::solve(
             vehicles,
             stops,
             locations,

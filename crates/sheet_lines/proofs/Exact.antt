@@ -23,8 +23,8 @@ use Rattle.model.proofs.Rebuilds.{rebuild-cost}
 use Rattle.model.proofs.PlanForm.{lent-length, lent-placed}
 use Rattle.run_promise.proofs.Limits.{cost-small}
 use Rattle.run_promise.proofs.Left.{formed-exact, final-formed}
-use Rattle.call_laws.proofs.Passed.{listed, affordable, lent}
-use Rattle.run_calls.proofs.Solving.{task-accepted}
+use Rattle.call_refusals.proofs.Accepted.{listed, affordable, lent}
+use Rattle.planner.proofs.Solving.{task-accepted}
 use Rattle.sheet_lines.specs.Printed.{Exactly}
 
 module _ (J : Job) where

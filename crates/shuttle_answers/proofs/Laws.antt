@@ -20,7 +20,7 @@ use Rattle.model.specs.File.{printed, printedRefusal}
 use Rattle.model.proofs.PlanForm.{decode-encode}
 use Rattle.model.proofs.Tasks.{accepted-once}
 use Rattle.run_promise.proofs.Left.{formed-lent, start-formed, formed-exact, final-formed}
-use Rattle.run_calls.proofs.Solving.{task-accepted}
+use Rattle.planner.proofs.Solving.{task-accepted}
 use Rattle.call_refusals.specs.Asked.{running}
 use Rattle.file_job.specs.declared.Header.{Header}
 use Rattle.file_lines.specs.Standing.{over}

@@ -1,2 +1,2 @@
--- What the contracts of this crate cite beside the definitions of `model` and `candidates`.
+-- What the contracts of this crate cite beside the definitions of `model` and `two_opt_candidates`.
 pub mod Move

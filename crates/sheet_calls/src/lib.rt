@@ -1,0 +1,176 @@
+// The public calls, made for a call sheet and their answers printed.
+ghost use mathlib.Core.Path.{_≡_};
+ghost use mathlib.Core.List.{[], _∷_};
+ghost use Rattle.model.specs.Job.{jobOf};
+ghost use Rattle.model.specs.Refusals.{asking, Weigh, StartPlan, TwoOpt, Rebuild, Exhaustive, Pruned, Solve};
+ghost use Rattle.model.specs.Calls.{costAnswer, startAnswer, planLeft, solveAnswer};
+ghost use Rattle.call_refusals.specs.Asked.{unpriced, running};
+ghost use Rattle.file_printing.specs.Printing.{Prints};
+ghost use Rattle.sheet_lines.specs.Printed.{printedWeight, printedStart, Printable, printedWeighed, printedSolved};
+use model::Prices;
+use model::Solved;
+use model::Weighed;
+use model::Written;
+
+// Weighs a plan and prints the answer: how many bytes it is.
+pub fn weigh(
+    vehicles: &[u32],
+    stops: &[u32],
+    locations: u32,
+    distances: &[u32],
+    prices: Prices,
+    plan: &[u32],
+    out: &mut [u8],
+) -> usize
+    requires { ⌜ Printable (now plan) (now out) ⌝ }
+    ensures { λ r. ⌜ Prints (now (out .entry)) (now (out .exit)) r
+        (printedWeight (costAnswer Weigh (asking (jobOf (now (vehicles .entry)) (now (stops .entry)) locations (now (distances .entry)) prices) (now (plan .entry)) []))) ⌝ }
+{
+    match planner::weigh(vehicles, stops, locations, distances, prices, plan) {
+        Weighed::Refused(number) => file_printing::print_refusal(number, out),
+        Weighed::Cost(c) => sheet_printing::print_cost(c, out),
+    }
+}
+
+// Writes the start plan and prints it.
+pub fn start_plan(
+    vehicles: &[u32],
+    stops: &[u32],
+    locations: u32,
+    distances: &[u32],
+    plan: &mut [u32],
+    out: &mut [u8],
+) -> usize
+    requires { ⌜ Printable (now plan) (now out) ⌝ }
+    ensures { λ r. ⌜ Prints (now (out .entry)) (now (out .exit)) r
+        (printedStart (startAnswer (asking (jobOf (now (vehicles .entry)) (now (stops .entry)) locations (now (distances .entry)) unpriced) (now (plan .entry)) []))
+        (now (plan .exit))) ⌝ }
+    ensures { λ _. ⌜ now (plan .exit) ≡ planLeft StartPlan (asking (jobOf (now (vehicles .entry)) (now (stops .entry)) locations (now (distances .entry)) unpriced) (now (plan .entry)) []) ⌝ }
+{
+    match planner::start_plan(vehicles, stops, locations, distances, plan) {
+        Written::Refused(number) => file_printing::print_refusal(number, out),
+        Written::Done => sheet_printing::print_list(plan, out),
+    }
+}
+
+// Makes the two-opt move of two stops, and prints the cost and the plan: how many bytes it is.
+pub fn two_opt(
+    vehicles: &[u32],
+    stops: &[u32],
+    locations: u32,
+    distances: &[u32],
+    prices: Prices,
+    plan: &mut [u32],
+    first: u32,
+    second: u32,
+    out: &mut [u8],
+) -> usize
+    requires { ⌜ Printable (now plan) (now out) ⌝ }
+    ensures { λ r. ⌜ Prints (now (out .entry)) (now (out .exit)) r
+        (printedWeighed (costAnswer TwoOpt (asking (jobOf (now (vehicles .entry)) (now (stops .entry)) locations (now (distances .entry)) prices) (now (plan .entry)) (first ∷ second ∷ []))) (now (plan .exit))) ⌝ }
+    ensures { λ _. ⌜ now (plan .exit) ≡ planLeft TwoOpt (asking (jobOf (now (vehicles .entry)) (now (stops .entry)) locations (now (distances .entry)) prices) (now (plan .entry)) (first ∷ second ∷ [])) ⌝ }
+{
+    let answer = planner::two_opt(
+        vehicles,
+        stops,
+        locations,
+        distances,
+        prices,
+        plan,
+        first,
+        second,
+    );
+    sheet_lines::print_weighed(answer, plan, out)
+}
+
+// Rebuilds round the given stops, and prints the same.
+pub fn rebuild(
+    vehicles: &[u32],
+    stops: &[u32],
+    locations: u32,
+    distances: &[u32],
+    prices: Prices,
+    plan: &mut [u32],
+    given: &[u32],
+    out: &mut [u8],
+) -> usize
+    requires { ⌜ Printable (now plan) (now out) ⌝ }
+    ensures { λ r. ⌜ Prints (now (out .entry)) (now (out .exit)) r
+        (printedWeighed (costAnswer Rebuild (asking (jobOf (now (vehicles .entry)) (now (stops .entry)) locations (now (distances .entry)) prices) (now (plan .entry)) (now (given .entry)))) (now (plan .exit))) ⌝ }
+    ensures { λ _. ⌜ now (plan .exit) ≡ planLeft Rebuild (asking (jobOf (now (vehicles .entry)) (now (stops .entry)) locations (now (distances .entry)) prices) (now (plan .entry)) (now (given .entry))) ⌝ }
+{
+    let answer = planner::rebuild(vehicles, stops, locations, distances, prices, plan, given);
+    sheet_lines::print_weighed(answer, plan, out)
+}
+
+// Prints the cost and the plan of the exhaustive solver: how many bytes it is.
+pub fn exhaustive(
+    vehicles: &[u32],
+    stops: &[u32],
+    locations: u32,
+    distances: &[u32],
+    prices: Prices,
+    plan: &mut [u32],
+    out: &mut [u8],
+) -> usize
+    requires { ⌜ Printable (now plan) (now out) ⌝ }
+    ensures { λ r. ⌜ Prints (now (out .entry)) (now (out .exit)) r
+        (printedWeighed (costAnswer Exhaustive (asking (jobOf (now (vehicles .entry)) (now (stops .entry)) locations (now (distances .entry)) prices) (now (plan .entry)) [])) (now (plan .exit))) ⌝ }
+    ensures { λ _. ⌜ now (plan .exit) ≡ planLeft Exhaustive (asking (jobOf (now (vehicles .entry)) (now (stops .entry)) locations (now (distances .entry)) prices) (now (plan .entry)) []) ⌝ }
+{
+    let answer = planner::exhaustive(vehicles, stops, locations, distances, prices, plan);
+    sheet_lines::print_weighed(answer, plan, out)
+}
+
+// Prints those of the pruned solver.
+pub fn pruned(
+    vehicles: &[u32],
+    stops: &[u32],
+    locations: u32,
+    distances: &[u32],
+    prices: Prices,
+    plan: &mut [u32],
+    out: &mut [u8],
+) -> usize
+    requires { ⌜ Printable (now plan) (now out) ⌝ }
+    ensures { λ r. ⌜ Prints (now (out .entry)) (now (out .exit)) r
+        (printedWeighed (costAnswer Pruned (asking (jobOf (now (vehicles .entry)) (now (stops .entry)) locations (now (distances .entry)) prices) (now (plan .entry)) [])) (now (plan .exit))) ⌝ }
+    ensures { λ _. ⌜ now (plan .exit) ≡ planLeft Pruned (asking (jobOf (now (vehicles .entry)) (now (stops .entry)) locations (now (distances .entry)) prices) (now (plan .entry)) []) ⌝ }
+{
+    let answer = planner::pruned(vehicles, stops, locations, distances, prices, plan);
+    sheet_lines::print_weighed(answer, plan, out)
+}
+
+// Runs the planner, and prints the numbers of the run and the plan: how many bytes it is.
+pub fn solve(
+    vehicles: &[u32],
+    stops: &[u32],
+    locations: u32,
+    distances: &[u32],
+    prices: Prices,
+    smoothing: u32,
+    limit: u32,
+    draws: &[u32],
+    plan: &mut [u32],
+    out: &mut [u8],
+) -> usize
+    requires { ⌜ Printable (now plan) (now out) ⌝ }
+    ensures { λ r. ⌜ Prints (now (out .entry)) (now (out .exit)) r
+        (printedSolved (solveAnswer (running (jobOf (now (vehicles .entry)) (now (stops .entry)) locations (now (distances .entry)) prices) smoothing limit (now (draws .entry)) (now (plan .entry)))) (now (plan .exit))) ⌝ }
+    ensures { λ _. ⌜ now (plan .exit) ≡ planLeft Solve (running (jobOf (now (vehicles .entry)) (now (stops .entry)) locations (now (distances .entry)) prices) smoothing limit (now (draws .entry)) (now (plan .entry))) ⌝ }
+{
+    match planner::solve(
+        vehicles,
+        stops,
+        locations,
+        distances,
+        prices,
+        smoothing,
+        limit,
+        draws,
+        plan,
+    ) {
+        Solved::Refused(number) => file_printing::print_refusal(number, out),
+        Solved::Ran(t) => sheet_printing::print_totals_and_list(t, plan, out),
+    }
+}
