@@ -5,9 +5,8 @@ use mathlib.Core.List.{List, []}
 use Prim.Native.Nat.{ℕ, zero, suc}
 use Rattle.model.specs.declared.Prices.{Prices}
 use Rattle.model.specs.Job.{Job, jobOf, vehicleCount, stopCount}
-use Rattle.model.specs.Refusals.{Arguments, asking, Weigh, StartPlan, TwoOpt, Rebuild, Exhaustive, Pruned, Solve, refusal, badVehicles, badStops, badTable, badLength, badDraws, badLocations, badDistances, badPrices, badPlan, badGiven, tooLarge}
+use Rattle.model.specs.Refusals.{Arguments, asking, Weigh, StartPlan, TwoOpt, Rebuild, Exhaustive, Pruned, Solve, refusal, badVehicles, badStops, badTable, badLength, badDraws, badLocations, badDistances, badPrices, badPlan, badGiven, tooLarge, unpriced}
 use Rattle.call_refusals.specs.Order.{ofShape, ofEntries, ofJob, ofNumbers, first}
-use Rattle.call_refusals.specs.Asked.{unpriced}
 
 -- 1 to 4, then the rest
 shape-first : (b₁ b₂ b₃ b₄ : Bool) (r : ℕ) → cond b₁ 1 (cond b₂ 2 (cond b₃ 3 (cond b₄ 4 r))) ≡ first (cond b₁ 1 (cond b₂ 2 (cond b₃ 3 (cond b₄ 4 0)))) r

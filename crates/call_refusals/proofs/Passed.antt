@@ -11,9 +11,8 @@ use Rattle.model.specs.Lists.{member}
 use Rattle.model.specs.Plan.{Sizes}
 use Rattle.model.specs.declared.Prices.{Prices}
 use Rattle.model.specs.Job.{jobOf, vehicleCount, stopCount}
-use Rattle.model.specs.Refusals.{Arguments, asking, Call, Test, tests, asked, firstOf, refusal, badLength, StartPlan}
+use Rattle.model.specs.Refusals.{Arguments, asking, Call, Test, tests, asked, firstOf, refusal, badLength, StartPlan, unpriced}
 use Rattle.call_refusals.specs.Order.{first, ofJob}
-use Rattle.call_refusals.specs.Asked.{unpriced}
 use Rattle.call_tests.proofs.Laws.{few-vehicles, few-stops}
 use Rattle.call_refusals.proofs.Order.{job-order}
 

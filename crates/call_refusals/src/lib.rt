@@ -2,9 +2,8 @@
 ghost use mathlib.Core.Path.{_≡_};
 ghost use mathlib.Core.List.{[]};
 ghost use Rattle.model.specs.Job.{jobOf};
-ghost use Rattle.model.specs.Refusals.{asking, refusal, Weigh, StartPlan, Rebuild, Exhaustive, Solve};
+ghost use Rattle.model.specs.Refusals.{asking, refusal, Weigh, StartPlan, Rebuild, Exhaustive, Solve, unpriced, running};
 ghost use Rattle.call_refusals.specs.Order.{ofShape, ofEntries, ofJob, ofNumbers};
-ghost use Rattle.call_refusals.specs.Asked.{unpriced, running};
 use model::Prices;
 
 // The first of 1 to 4 that applies, or 0.

@@ -2,10 +2,10 @@
 use mathlib.Core.Path.{_≡_}
 use Prim.Native.Nat.{ℕ, _+_, _*_, _^_, _≤_, _<_}
 use mathlib.Core.List.{List, [], _∷_}
-use lib.ListN.{length}
+use lib.ListN.{length, take}
 use Rattle.model.specs.Job.{vehicleCount, stopCount}
 use Rattle.model.specs.Run.{Task}
-use Rattle.model.specs.File.{line, drawLines, largestNumber, NoneOver, Stands, Accepted, AcceptedAt}
+use Rattle.model.specs.File.{Readable, line, drawLines, largestNumber, NoneOver, Stands, Accepted, AcceptedAt}
 use Rattle.file_job.specs.declared.FirstNumbers.{FirstNumbers}
 use Rattle.file_job.specs.declared.FirstLine.{FirstLine}
 use Rattle.file_job.specs.declared.FirstLine.the-variants as F
@@ -125,3 +125,20 @@ ReadAt bytes at old new (R.Refused number) = (number ≡ 14) × (new ≡ old) ×
 abbrev pub ReadWhole : List ℕ → Buffers → Buffers → TaskRead → Type 0
 ReadWhole bytes old new (R.Read h) = (T : Task) × Accepted bytes T × (h ≡ headerOf T (length bytes)) × (new ≡ loaded T old)
 ReadWhole bytes old new (R.Refused number) = (number ≡ 14) × (new ≡ old) × ((T : Task) → Accepted bytes T → ⊥)
+
+-- the lists begin with those of a task of this header
+pub record Holds (h : Header) (m : Buffers) (T : Task) : Type 0 where
+  pub readable : Readable T
+  pub header : h ≡ headerOf T (h .end)
+  pub vehicles : take (length (T .job .vehicles)) (m .vehicles) ≡ T .job .vehicles
+  pub stops : take (length (T .job .stops)) (m .stops) ≡ T .job .stops
+  pub distances : take (length (T .job .distances)) (m .distances) ≡ T .job .distances
+  pub draws : take (length (T .draws)) (m .draws) ≡ T .draws
+
+-- what such a header says of the sizes
+pub record Bounds (h : Header) (m : Buffers) : Type 0 where
+  pub vehicles : h .vehicles ≤ 16
+  pub stops : h .stops ≤ 64
+  pub entries : h .locations * h .locations ≤ 6400
+  pub draws : h .draws ≤ 1024
+  pub lists : Room m

@@ -1,9 +1,9 @@
 -- The public calls: what each answers and what it leaves in the lent plan, for refused and accepted arguments alike.
-use Prim.Native.Nat.{ℕ, zero, suc}
+use Prim.Native.Nat.{ℕ, zero, suc, _+_}
 use mathlib.Core.Bool.{Bool, true, false, cond, _&&_, _||_, not}
 use mathlib.Core.List.{List, [], _∷_}
 use lib.Dec.{leb}
-use lib.ListN.{length, getD}
+use lib.ListN.{length, getD, replicate}
 use Rattle.model.specs.declared.Totals.{Totals}
 use Rattle.model.specs.declared.Weighed.{Weighed}
 use Rattle.model.specs.declared.Weighed.the-variants as W
@@ -18,13 +18,21 @@ use Rattle.model.specs.Cost.{cost}
 use Rattle.model.specs.Nearest.{startPlan}
 use Rattle.model.specs.TwoOpt.{twoOpt}
 use Rattle.model.specs.Rebuild.{rebuild, exhaustive, pruned}
-use Rattle.model.specs.Run.{Task, State, Round, startState, rounds, lastState, ends}
-use Rattle.model.specs.Refusals.{Arguments, Call, Weigh, StartPlan, TwoOpt, Rebuild, Exhaustive, Pruned, Solve, refusal}
+use Rattle.model.specs.Run.{Task, taskFor, State, Round, startState, rounds, lastState, ends}
+use Rattle.model.specs.Refusals.{Arguments, running, Call, Weigh, StartPlan, TwoOpt, Rebuild, Exhaustive, Pruned, Solve, refusal}
 
 -- ---- a run
 
 abbrev pub taskOf : Arguments → Task
-taskOf A = record { job = A .job; smoothing = A .smoothing; limit = A .limit; draws = A .draws }
+taskOf A = taskFor (A .job) (A .smoothing) (A .limit) (A .draws)
+
+-- the numbers of a plan to be written
+abbrev pub blank : Job → List ℕ
+blank J = replicate (vehicleCount J + stopCount J) 0
+
+-- how a program runs a task: it lends a plan of the right length
+abbrev pub runOf : Task → Arguments
+runOf T = running (T .job) (T .smoothing) (T .limit) (T .draws) (blank (T .job))
 
 -- v = 0, or n below 2: no rounds
 abbrev pub hasRounds : Job → Bool

@@ -12,6 +12,7 @@ use Rattle.model.specs.Whole.{amount}
 use Rattle.model.specs.Job.{Job, vehicleCount, stopCount}
 use Rattle.model.specs.Plan.{Plan, vehicleOf, isPlaced}
 use Rattle.model.specs.Run.{Task}
+use Rattle.model.specs.Calls.{runOf, finalState, solveAnswer}
 
 -- ---- numbers and lines
 
@@ -165,3 +166,7 @@ printedRefusal number = line 20 (number ∷ [])
 unfoldable pub printed : ℕ → Plan → Solved → List ℕ
 printed n P (Refused number) = printedRefusal number
 printed n P (Ran t) = printedRun n P (amount (t .start)) (amount (t .end)) (t .rounds) (t .improving) (cond (t .settled) 1 0)
+
+-- what the program prints for a task: what `solve` answers, with the plan that it leaves
+unfoldable pub printedTask : Task → List ℕ
+printedTask T = printed (stopCount (T .job)) (finalState T .plan) (solveAnswer (runOf T))

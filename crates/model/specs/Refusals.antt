@@ -23,6 +23,15 @@ pub record Arguments : Type 0 where
 abbrev pub asking : Job → List ℕ → List ℕ → Arguments
 asking J plan given = record { job = J; plan = plan; smoothing = 0; limit = 0; draws = []; given = given }
 
+-- the arguments of a run
+abbrev pub running : Job → ℕ → ℕ → List ℕ → List ℕ → Arguments
+running J smoothing limit draws plan =
+    record { job = J; plan = plan; smoothing = smoothing; limit = limit; draws = draws; given = [] }
+
+-- what stands for the prices in a call that knows none
+abbrev pub unpriced : Prices
+unpriced = record { linear = 0; quadratic = 0; missed = 0 }
+
 -- the public calls
 pub data Call : Type 0 where
   Weigh : Call

@@ -21,6 +21,10 @@ pub record Task : Type 0 where
   pub limit : ℕ
   pub draws : List ℕ
 
+-- the task of running a job with these numbers and draws
+abbrev pub taskFor : Job → ℕ → ℕ → List ℕ → Task
+taskFor J smoothing limit draws = record { job = J; smoothing = smoothing; limit = limit; draws = draws }
+
 -- the draw at a place; after the last comes the first again
 abbrev pub drawn : List ℕ → ℕ → ℕ
 drawn ds place = getD ds (place % length ds) 0

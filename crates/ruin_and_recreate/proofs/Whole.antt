@@ -18,7 +18,7 @@ use Rattle.model.specs.Legs.{Fits}
 use Rattle.model.specs.Cost.{cost}
 use Rattle.model.specs.Nearest.{startPlan}
 use Rattle.model.specs.Settle.{noAverages, settles}
-use Rattle.model.specs.Run.{Task, State, startState, roundFrom, rounds, lastState, ends}
+use Rattle.model.specs.Run.{Task, State, startState, roundFrom, rounds, lastState, ends, taskFor}
 use Rattle.model.specs.Calls.{hasRounds, roundsIf, finalState, totals}
 use Rattle.model.proofs.PlanForm.{decode-encode}
 use Rattle.model.proofs.Runs.{start-goes, follows, counts}
@@ -26,7 +26,7 @@ use Rattle.nearest_neighbor.specs.Answers.{Started}
 use Rattle.nearest_neighbor.proofs.Turns.{start-routes}
 use Rattle.run_round.proofs.Steps.{same-state}
 use Rattle.run_round.specs.declared.Progress.{Progress}
-use Rattle.run_round.specs.Standing.{stateOf, CostOf, Standing, Rounded, taskFor}
+use Rattle.run_round.specs.Standing.{stateOf, CostOf, Standing, Rounded}
 use Rattle.ruin_and_recreate.specs.Runs.{Ended, Ran}
 
 -- ---- what remains of the rounds

@@ -9,10 +9,10 @@ use Rattle.model.specs.declared.Totals.{Totals}
 use Rattle.model.specs.Job.{Job}
 use Rattle.model.specs.Plan.{encode, Sizes}
 use Rattle.model.specs.Legs.{LegTable, Affordable, Fits}
-use Rattle.model.specs.Run.{startState, rounds, lastState}
+use Rattle.model.specs.Run.{startState, rounds, lastState, taskFor}
 use Rattle.model.specs.Calls.{finalState, totals}
 use Rattle.run_round.specs.declared.Progress.{Progress}
-use Rattle.run_round.specs.Standing.{stateOf, Standing, taskFor}
+use Rattle.run_round.specs.Standing.{stateOf, Standing}
 
 -- where the rounds from the start plan on end
 pub record Ended (legs : List ℕ) (v n : ℕ) (prices : Prices) (draws : List ℕ) (c limit : ℕ) (plan : List ℕ) (r : Progress) : Type 0 where

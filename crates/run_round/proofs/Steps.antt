@@ -21,7 +21,7 @@ use Rattle.model.specs.Nearest.{neighbours}
 use Rattle.model.specs.TwoOpt.{twoOptPass}
 use Rattle.model.specs.Rebuild.{rebuild}
 use Rattle.model.specs.Settle.{averaged}
-use Rattle.model.specs.Run.{Task, State, drawn, roundFrom}
+use Rattle.model.specs.Run.{Task, State, drawn, roundFrom, taskFor}
 use Rattle.model.proofs.Moves.{twoOptPass-moved}
 use Rattle.model.proofs.Rebuilds.{rebuild-length}
 use Rattle.model.proofs.PlanForm.{decode-encode, lent-length}
@@ -34,7 +34,7 @@ use Rattle.rebuild.specs.Rebuilt.{Rebuilt}
 use Rattle.run_draws.specs.Picks.{pickedFrom, Picked}
 use Rattle.run_draws.proofs.Picks.{picked-same}
 use Rattle.run_round.specs.declared.Progress.{Progress}
-use Rattle.run_round.specs.Standing.{Counted, stateOf, Course, Standing, Rounded, taskFor}
+use Rattle.run_round.specs.Standing.{Counted, stateOf, Course, Standing, Rounded}
 
 -- whether a round improves is seen in f64
 pub improves-one : (b : Bool) (old new : Float) (m k : ℕ) → lt new old ≡ b → m ≤ exact → k ≤ exact → old ≡ whole m → new ≡ whole k

@@ -61,10 +61,6 @@ pub record Standing (legs : List ℕ) (v n : ℕ) (prices : Prices) (plan : List
   pub counted : p .improving ≤ p .rounds
   pub early : p .place ≤ 5 * p .rounds
 
--- the task of a run
-abbrev pub taskFor : Job → ℕ → ℕ → List ℕ → Task
-taskFor J c limit draws = record { job = J; smoothing = c; limit = limit; draws = draws }
-
 -- a round takes the plan xs with p to the plan ys with r: it stands again, and for every job that fits the state is the one that the definition's round leaves
 pub record Rounded (legs : List ℕ) (v n : ℕ) (prices : Prices) (draws : List ℕ) (c : ℕ) (xs : List ℕ) (p : Progress) (ys : List ℕ) (r : Progress) : Type 0 where
   pub stands : Standing legs v n prices ys r

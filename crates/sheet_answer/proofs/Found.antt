@@ -6,6 +6,7 @@ use mathlib.Core.Bool.{Bool, true, false, cond}
 use mathlib.Core.List.{List, [], _++_}
 use lib.Dec.{eqb}
 use lib.ListN.{length, take, replicate, length-append}
+use Rattle.model.specs.Calls.{blank}
 use Rattle.model.specs.Job.{vehicleCount, stopCount}
 use Rattle.model.specs.File.{fileOf, printedRefusal, Stands, AcceptedAt}
 use Rattle.model.proofs.Pieces.{stands-within, part, join}
@@ -14,8 +15,7 @@ use Rattle.file_job.specs.declared.Header.{Header}
 use Rattle.file_job.specs.declared.TaskRead.{TaskRead}
 use Rattle.file_job.specs.declared.TaskRead.the-variants as T
 use Rattle.file_lines.specs.Standing.{over}
-use Rattle.file_job.specs.Reading.{Buffers, Room, ReadAt}
-use Rattle.shuttle_answers.specs.Answers.{blank, Holds}
+use Rattle.file_job.specs.Reading.{Buffers, Room, ReadAt, Holds}
 use Rattle.shuttle_answers.proofs.Laws.{bounds, over-front, take-replicate, prints-within}
 use Rattle.file_printing.specs.Printing.{Prints}
 use Rattle.sheet_lines.specs.Printed.{longestPlan, mostPrinted}

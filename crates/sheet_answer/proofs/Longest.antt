@@ -7,12 +7,12 @@ use mathlib.Core.List.{List, _++_}
 use lib.Dec.{eqb}
 use lib.ListN.{length, take, drop, length-append, length-drop}
 use lib.Seq.{take-append-le, drop-append-le}
+use Rattle.model.specs.Calls.{blank}
 use Rattle.model.specs.Run.{Task}
 use Rattle.model.specs.File.{fileOf, Readable}
 use Rattle.model.proofs.Pieces.{fitting, line-length}
 use Rattle.model.proofs.Tasks.{file-length}
 use Rattle.file_job.proofs.Checked.{table-bytes}
-use Rattle.shuttle_answers.specs.Answers.{blank}
 use Rattle.sheet_lines.specs.Printed.{longestPlan}
 use Rattle.sheet_head.specs.Form.{hasGiven, leastGiven, mostGiven, hasPlan, lineIf, headOf, ListFor}
 use Rattle.sheet_answer.specs.Sheets.{Sheet, sheetOf, ReadableSheet, SheetAt, longestSheet}

@@ -6,9 +6,8 @@ use mathlib.Core.List.{List, [], _∷_}
 use lib.ListN.{length, getD}
 use Rattle.model.specs.Job.{Job}
 use Rattle.model.specs.Run.{Task}
-use Rattle.model.specs.Refusals.{Arguments, asking, Call, Weigh, StartPlan, TwoOpt, Rebuild, Exhaustive, Pruned, Solve}
+use Rattle.model.specs.Refusals.{Arguments, asking, Call, Weigh, StartPlan, TwoOpt, Rebuild, Exhaustive, Pruned, Solve, running}
 use Rattle.model.specs.Calls.{costAnswer, startAnswer, solveAnswer, planLeft}
-use Rattle.call_refusals.specs.Asked.{running}
 use Rattle.file_printing.specs.Printing.{Prints}
 use Rattle.sheet_lines.specs.Printed.{printedWeight, printedStart, printedWeighed, printedSolved}
 use Rattle.sheet_answer.specs.Sheets.{callOf, priceless, printedCosts, printedCall}

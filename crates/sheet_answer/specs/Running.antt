@@ -8,8 +8,7 @@ use Rattle.model.specs.Job.{Job}
 use Rattle.model.specs.Run.{Task}
 use Rattle.model.specs.File.{printedRefusal}
 use Rattle.file_job.specs.declared.Header.{Header}
-use Rattle.file_job.specs.Reading.{Buffers}
-use Rattle.shuttle_answers.specs.Answers.{Holds, Bounds}
+use Rattle.file_job.specs.Reading.{Buffers, Holds, Bounds}
 use Rattle.file_printing.specs.Printing.{Prints}
 use Rattle.sheet_lines.specs.Printed.{Printable, longestPlan, mostPrinted}
 use Rattle.sheet_head.specs.declared.Head.{Head}

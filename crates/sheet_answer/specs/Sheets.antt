@@ -8,10 +8,8 @@ use lib.ListN.{length}
 use Rattle.model.specs.Job.{Job, jobOf}
 use Rattle.model.specs.Run.{Task}
 use Rattle.model.specs.File.{fileOf, Readable, Stands}
-use Rattle.model.specs.Refusals.{Arguments, asking, Call, Weigh, StartPlan, TwoOpt, Rebuild, Exhaustive, Pruned, Solve}
-use Rattle.model.specs.Calls.{costAnswer, startAnswer, solveAnswer, planLeft}
-use Rattle.call_refusals.specs.Asked.{unpriced, running}
-use Rattle.shuttle_answers.specs.Answers.{blank}
+use Rattle.model.specs.Refusals.{Arguments, asking, Call, Weigh, StartPlan, TwoOpt, Rebuild, Exhaustive, Pruned, Solve, unpriced, running}
+use Rattle.model.specs.Calls.{costAnswer, startAnswer, solveAnswer, planLeft, blank}
 use Rattle.sheet_head.specs.Form.{hasGiven, leastGiven, mostGiven, hasPlan, headOf, ListFor}
 use Rattle.sheet_lines.specs.Printed.{printedWeight, printedStart, printedWeighed, printedSolved, longestPlan}
 

@@ -7,10 +7,10 @@ use sheet_head::HeadRead;
 ghost use mathlib.Core.Path.{_≡_};
 ghost use Prim.Native.Nat.{_≤_};
 ghost use lib.ListN.{length};
+ghost use Rattle.model.specs.Run.{taskFor};
 ghost use Rattle.model.specs.Job.{jobOf};
 ghost use Rattle.file_job.specs.Reading.{buffers};
 ghost use Rattle.file_printing.specs.Printing.{Prints};
-ghost use Rattle.shuttle_answers.specs.Answers.{taskOn};
 ghost use Rattle.sheet_lines.specs.Printed.{mostPrinted};
 ghost use Rattle.sheet_answer.specs.Sheets.{callOf, printedCall};
 ghost use Rattle.sheet_answer.specs.Running.{Runs, JobPrints, planLength, ReadySheet, SheetPrints, AnswersSheet};
@@ -88,7 +88,7 @@ fn run_call(
 ) -> usize
     requires { ⌜ Runs call (now given) (now plan) (now out) ⌝ }
     ensures { λ r. ⌜ Prints (now (out .entry)) (now (out .exit)) r (printedCall (callOf call) (now (given .entry)) (now (plan .entry))
-        (taskOn (now (vehicles .entry)) (now (stops .entry)) locations (now (distances .entry)) prices smoothing limit (now (draws .entry)))) ⌝ }
+        (taskFor (jobOf (now (vehicles .entry)) (now (stops .entry)) locations (now (distances .entry)) prices) smoothing limit (now (draws .entry)))) ⌝ }
 {
     if call == 1 {
         return sheet_calls::weigh(vehicles, stops, locations, distances, prices, plan, out);

@@ -2,9 +2,8 @@
 ghost use mathlib.Core.Path.{_≡_};
 ghost use mathlib.Core.List.{[], _∷_};
 ghost use Rattle.model.specs.Job.{jobOf};
-ghost use Rattle.model.specs.Refusals.{asking, Weigh, StartPlan, TwoOpt, Rebuild, Exhaustive, Pruned, Solve};
+ghost use Rattle.model.specs.Refusals.{asking, Weigh, StartPlan, TwoOpt, Rebuild, Exhaustive, Pruned, Solve, unpriced, running};
 ghost use Rattle.model.specs.Calls.{costAnswer, startAnswer, planLeft, solveAnswer};
-ghost use Rattle.call_refusals.specs.Asked.{unpriced, running};
 ghost use Rattle.file_printing.specs.Printing.{Prints};
 ghost use Rattle.sheet_lines.specs.Printed.{printedWeight, printedStart, Printable, printedWeighed, printedSolved};
 use model::Prices;

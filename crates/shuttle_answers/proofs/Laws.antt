@@ -10,26 +10,25 @@ use Rattle.model.specs.declared.Prices.{Prices}
 use Rattle.model.specs.declared.Totals.{Totals}
 use Rattle.model.specs.declared.Solved.{Solved}
 use Rattle.model.specs.declared.Solved.the-variants as S
-use Rattle.model.specs.Job.{Job, vehicleCount, stopCount}
+use Rattle.model.specs.Job.{Job, vehicleCount, stopCount, jobOf}
 use Rattle.model.specs.Plan.{Plan, encode, decode, Lent, Sizes}
 use Rattle.model.specs.Nearest.{startPlan}
-use Rattle.model.specs.Run.{Task}
-use Rattle.model.specs.Refusals.{Arguments, Solve, refusal}
-use Rattle.model.specs.Calls.{taskOf, finalState, totals, solved, solveAnswer, made, leftBy, planLeft}
-use Rattle.model.specs.File.{printed, printedRefusal}
+use Rattle.model.specs.Run.{Task, taskFor}
+use Rattle.model.specs.Refusals.{Arguments, Solve, refusal, running}
+use Rattle.model.specs.Calls.{taskOf, finalState, totals, solved, solveAnswer, made, leftBy, planLeft, blank, runOf}
+use Rattle.model.specs.File.{printed, printedRefusal, printedTask}
 use Rattle.model.proofs.PlanForm.{decode-encode}
 use Rattle.model.proofs.Tasks.{accepted-once}
 use Rattle.run_promise.proofs.Left.{formed-lent, start-formed, formed-exact, final-formed}
 use Rattle.planner.proofs.Solving.{task-accepted}
-use Rattle.call_refusals.specs.Asked.{running}
 use Rattle.file_job.specs.declared.Header.{Header}
 use Rattle.file_lines.specs.Standing.{over}
-use Rattle.file_job.specs.Reading.{headerOf, Buffers, Room, ReadWhole}
+use Rattle.file_job.specs.Reading.{headerOf, Buffers, Room, ReadWhole, Holds, Bounds}
 use Rattle.file_job.specs.declared.TaskRead.{TaskRead}
 use Rattle.file_job.specs.declared.TaskRead.the-variants as R
 use Rattle.file_columns.specs.Put.{written}
 use Rattle.file_printing.specs.Printing.{Priced, Prints}
-use Rattle.shuttle_answers.specs.Answers.{taskOn, blank, runOf, printedTask, Runnable, Holds, Bounds, Ready, mostPrinted, TaskPrints, Answers}
+use Rattle.shuttle_answers.specs.Answers.{Runnable, Ready, mostPrinted, TaskPrints, Answers}
 
 -- ---- what an answer of `solve` says
 
@@ -111,12 +110,13 @@ front k xs ys e h = let j : k - 0 ≡ length xs = omega arith in ap (λ (i : ℕ
 -- the lists that are lent on are the task's
 abbrev pub taskIn : Header → Buffers → Task
 taskIn h m =
-    taskOn
+    taskFor
+    (jobOf
     (take (h .vehicles * 2 - 0) (m .vehicles))
     (take (h .stops - 0) (m .stops))
     (h .locations)
     (take (h .locations * h .locations - 0) (m .distances))
-    (h .prices)
+    (h .prices))
     (h .smoothing)
     (h .limit)
     (take (h .draws - 0) (m .draws))
@@ -129,7 +129,7 @@ same-task h m T k =
     let ss = front (h .stops) _ (m .stops) (ap (λ x. x .stops) e) (k .stops) in
     let ds = front (h .locations * h .locations) _ (m .distances) (ap (λ x. x .locations * x .locations) e ∙ sym (r .square)) (k .distances) in
     let rs = front (h .draws) _ (m .draws) (ap (λ x. x .draws) e) (k .draws) in
-    λ i. taskOn (vs i) (ss i) (e i .locations) (ds i) (e i .prices) (e i .smoothing) (e i .limit) (rs i)
+    λ i. taskFor (jobOf (vs i) (ss i) (e i .locations) (ds i) (e i .prices)) (e i .smoothing) (e i .limit) (rs i)
 
 pub take-replicate : (k m x : ℕ) → k ≤ m → take k (replicate m x) ≡ replicate k x
 take-replicate zero m x h = refl

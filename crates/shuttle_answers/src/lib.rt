@@ -6,13 +6,14 @@ use model::Solved;
 ghost use mathlib.Core.Path.{_≡_};
 ghost use Prim.Native.Nat.{_≤_};
 ghost use lib.ListN.{length};
+ghost use Rattle.model.specs.File.{printedTask};
+ghost use Rattle.model.specs.Run.{taskFor};
 ghost use Rattle.model.specs.Job.{jobOf};
-ghost use Rattle.model.specs.Refusals.{Solve};
+ghost use Rattle.model.specs.Refusals.{Solve, running};
 ghost use Rattle.model.specs.Calls.{solveAnswer, planLeft};
-ghost use Rattle.call_refusals.specs.Asked.{running};
 ghost use Rattle.file_job.specs.Reading.{buffers};
 ghost use Rattle.file_printing.specs.Printing.{Prints};
-ghost use Rattle.shuttle_answers.specs.Answers.{taskOn, printedTask, mostPrinted, Runnable, Ready, TaskPrints, Answers};
+ghost use Rattle.shuttle_answers.specs.Answers.{mostPrinted, Runnable, Ready, TaskPrints, Answers};
 
 // Runs a task and prints the answer: how many bytes it is.
 fn run(
@@ -29,7 +30,7 @@ fn run(
 ) -> usize
     requires { ⌜ Runnable (now vehicles) (now stops) locations (now distances) prices (now plan) (now out) ⌝ }
     ensures { λ r. ⌜ Prints (now (out .entry)) (now (out .exit)) r
-        (printedTask (taskOn (now (vehicles .entry)) (now (stops .entry)) locations (now (distances .entry)) prices smoothing limit (now (draws .entry)))) ⌝ }
+        (printedTask (taskFor (jobOf (now (vehicles .entry)) (now (stops .entry)) locations (now (distances .entry)) prices) smoothing limit (now (draws .entry)))) ⌝ }
 {
     match planner::solve(
         vehicles,

@@ -1,9 +1,8 @@
 -- `planner::solve` meets its contract. Assumes nothing.
 use mathlib.Core.Path.{_≡_, refl, sym, _∙_}
 use Rattle.model.specs.Job.{jobOf}
-use Rattle.model.specs.Refusals.{Arguments, Solve, refusal}
+use Rattle.model.specs.Refusals.{Arguments, Solve, refusal, running}
 use Rattle.model.specs.Calls.{made}
-use Rattle.call_refusals.specs.Asked.{running}
 use Rattle.call_refusals.proofs.Accepted.{listed, affordable, drawable, smooth}
 use Rattle.call_refusals.proofs.Answers.{left-alone, left-new}
 use Rattle.planner.proofs.Solving.{solve-refused, solve-accepted, keeps}

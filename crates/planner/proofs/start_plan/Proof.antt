@@ -2,9 +2,8 @@
 use mathlib.Core.Path.{_≡_, sym, _∙_}
 use mathlib.Core.List.{[]}
 use Rattle.model.specs.Job.{jobOf}
-use Rattle.model.specs.Refusals.{Arguments, asking, StartPlan, refusal}
+use Rattle.model.specs.Refusals.{Arguments, asking, StartPlan, refusal, unpriced}
 use Rattle.model.specs.Calls.{made}
-use Rattle.call_refusals.specs.Asked.{unpriced}
 use Rattle.call_refusals.proofs.Accepted.{listed}
 use Rattle.call_refusals.proofs.Answers.{start-refused, start-accepted, left-alone, left-new}
 use borrow.Author.Needs.{needs}
