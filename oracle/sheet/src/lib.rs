@@ -7,7 +7,7 @@ mod read;
 mod refuse;
 mod write;
 
-pub use job::{job_a, Call, Job, Sheet};
+pub use job::{job_a, sheet_a, Call, Job, Sheet};
 pub use plan::{decode, encode, Routes, UNUSED};
 pub use print::{answer_sheets, answer_sheets_by, costs, run_line, shuttle};
 pub use read::{read_job, read_sheet, Malformed};
