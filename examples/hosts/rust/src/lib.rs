@@ -1,300 +1,168 @@
-// The calls of include/planner.h for hosts in Rust. A slice crosses as its pointer and its length, a result as a reference. Each wrapper
-// is safe, since what a call asks of its host (pointers that hold, lengths that fit, no overlap of what is written) is what
-// Rust's references give. Each returns the number of the refusal, 0 for none.
+//! The calls of include/planner.h for hosts in Rust.
+//!
+//! Each call tests its arguments itself, and either does what its line says or is refused: then the lent plan is as it was.
+//! None can fail otherwise, and none takes memory but the stack. The functions here are safe, since what a call asks of its
+//! host (addresses that hold, lengths that fit, no overlap of what is written) is what Rust's references give.
+//!
+//! A plan is a number for each vehicle and each stop: the lengths of the routes, then the stops of route 0, route 1 and so on,
+//! then [`UNUSED`] in each place that is left.
 
+pub mod raw;
+mod refusal;
+
+use refusal::answer;
+pub use refusal::Refusal;
+
+/// What stands in each place of a plan that no stop takes.
+pub const UNUSED: u32 = u32::MAX;
+
+/// What is to be planned.
+#[derive(Clone, Copy, Debug)]
 pub struct Job<'a> {
+    /// The location numbers of each vehicle's start and end, two for each vehicle.
     pub vehicles: &'a [u32],
+    /// The location number of each stop.
     pub stops: &'a [u32],
+    /// How many locations there are.
     pub locations: u32,
+    /// Whole metres from each location to each, row after row: row = from, column = to.
     pub distances: &'a [u32],
+    /// The price of a route's metre.
     pub linear: u32,
+    /// The price of a route's squared metre.
     pub quadratic: u32,
+    /// The price of a stop that is on no route.
     pub missed: u64,
 }
 
-// The values of a run: start cost, end cost, rounds, improving rounds, 1 for settled or 0 for cut.
+/// What a run needs besides its job.
+#[derive(Clone, Copy, Debug)]
+pub struct Running<'a> {
+    /// Over how many rounds the averages go that say whether a run has settled.
+    pub smoothing: u32,
+    /// How many rounds there are at most.
+    pub limit: u32,
+    /// The numbers that stand for chance, read in order and from the front again after the last.
+    pub draws: &'a [u32],
+}
+
+/// What a run answers besides its plan.
+#[derive(Clone, Copy, Debug, Default, PartialEq)]
 pub struct Totals {
+    /// The cost of the start plan. A cost is a whole number, exact in f64.
     pub start: f64,
+    /// The cost of the plan that is left.
     pub end: f64,
+    /// The rounds.
     pub rounds: u32,
+    /// Those among the rounds that made the plan cheaper.
     pub improving: u32,
-    pub settled: u32,
+    /// Whether the run settled. If not, the limit cut it.
+    pub settled: bool,
 }
 
-extern "C" {
-    fn planner_weigh(
-        vehicles: *const u32,
-        vehicles_len: usize,
-        stops: *const u32,
-        stops_len: usize,
-        locations: u32,
-        distances: *const u32,
-        distances_len: usize,
-        linear: u32,
-        quadratic: u32,
-        missed: u64,
-        plan: *const u32,
-        plan_len: usize,
-        cost: &mut f64,
-    ) -> u32;
-    fn planner_start_plan(
-        vehicles: *const u32,
-        vehicles_len: usize,
-        stops: *const u32,
-        stops_len: usize,
-        locations: u32,
-        distances: *const u32,
-        distances_len: usize,
-        plan: *mut u32,
-        plan_len: usize,
-    ) -> u32;
-    fn planner_two_opt(
-        vehicles: *const u32,
-        vehicles_len: usize,
-        stops: *const u32,
-        stops_len: usize,
-        locations: u32,
-        distances: *const u32,
-        distances_len: usize,
-        linear: u32,
-        quadratic: u32,
-        missed: u64,
-        plan: *mut u32,
-        plan_len: usize,
-        first: u32,
-        second: u32,
-        cost: &mut f64,
-    ) -> u32;
-    fn planner_rebuild(
-        vehicles: *const u32,
-        vehicles_len: usize,
-        stops: *const u32,
-        stops_len: usize,
-        locations: u32,
-        distances: *const u32,
-        distances_len: usize,
-        linear: u32,
-        quadratic: u32,
-        missed: u64,
-        plan: *mut u32,
-        plan_len: usize,
-        given: *const u32,
-        given_len: usize,
-        cost: &mut f64,
-    ) -> u32;
-    fn planner_exhaustive(
-        vehicles: *const u32,
-        vehicles_len: usize,
-        stops: *const u32,
-        stops_len: usize,
-        locations: u32,
-        distances: *const u32,
-        distances_len: usize,
-        linear: u32,
-        quadratic: u32,
-        missed: u64,
-        plan: *mut u32,
-        plan_len: usize,
-        cost: &mut f64,
-    ) -> u32;
-    fn planner_pruned(
-        vehicles: *const u32,
-        vehicles_len: usize,
-        stops: *const u32,
-        stops_len: usize,
-        locations: u32,
-        distances: *const u32,
-        distances_len: usize,
-        linear: u32,
-        quadratic: u32,
-        missed: u64,
-        plan: *mut u32,
-        plan_len: usize,
-        cost: &mut f64,
-    ) -> u32;
-    fn planner_solve(
-        vehicles: *const u32,
-        vehicles_len: usize,
-        stops: *const u32,
-        stops_len: usize,
-        locations: u32,
-        distances: *const u32,
-        distances_len: usize,
-        linear: u32,
-        quadratic: u32,
-        missed: u64,
-        smoothing: u32,
-        limit: u32,
-        draws: *const u32,
-        draws_len: usize,
-        plan: *mut u32,
-        plan_len: usize,
-        start: &mut f64,
-        end: &mut f64,
-        rounds: &mut u32,
-        improving: &mut u32,
-        settled: &mut u32,
-    ) -> u32;
-}
-
-// Weighs a plan.
-pub fn weigh(job: &Job, plan: &[u32], cost: &mut f64) -> u32 {
-    unsafe {
-        planner_weigh(
-            job.vehicles.as_ptr(),
-            job.vehicles.len(),
-            job.stops.as_ptr(),
-            job.stops.len(),
-            job.locations,
-            job.distances.as_ptr(),
-            job.distances.len(),
-            job.linear,
-            job.quadratic,
-            job.missed,
-            plan.as_ptr(),
-            plan.len(),
-            cost,
+/// The cost of a plan.
+#[rustfmt::skip]
+pub fn weigh(job: &Job, plan: &[u32]) -> Result<f64, Refusal> {
+    let mut cost = 0.0;
+    let number = unsafe {
+        raw::planner_weigh(
+            job.vehicles.as_ptr(), job.vehicles.len(), job.stops.as_ptr(), job.stops.len(), job.locations,
+            job.distances.as_ptr(), job.distances.len(), job.linear, job.quadratic, job.missed,
+            plan.as_ptr(), plan.len(), &mut cost,
         )
-    }
+    };
+
+    answer(number, cost)
 }
 
-// Writes the start plan.
-pub fn start_plan(job: &Job, plan: &mut [u32]) -> u32 {
-    unsafe {
-        planner_start_plan(
-            job.vehicles.as_ptr(),
-            job.vehicles.len(),
-            job.stops.as_ptr(),
-            job.stops.len(),
-            job.locations,
-            job.distances.as_ptr(),
-            job.distances.len(),
-            plan.as_mut_ptr(),
-            plan.len(),
+/// Writes the start plan: vehicles in turn, each to the nearest stop that is left. What the plan held is not read.
+#[rustfmt::skip]
+pub fn start_plan(job: &Job, plan: &mut [u32]) -> Result<(), Refusal> {
+    let number = unsafe {
+        raw::planner_start_plan(
+            job.vehicles.as_ptr(), job.vehicles.len(), job.stops.as_ptr(), job.stops.len(), job.locations,
+            job.distances.as_ptr(), job.distances.len(), plan.as_mut_ptr(), plan.len(),
         )
-    }
+    };
+
+    answer(number, ())
 }
 
-// Improves a plan by the two-opt move of one pair of stops, and weighs it.
-pub fn two_opt(job: &Job, plan: &mut [u32], first: u32, second: u32, cost: &mut f64) -> u32 {
-    unsafe {
-        planner_two_opt(
-            job.vehicles.as_ptr(),
-            job.vehicles.len(),
-            job.stops.as_ptr(),
-            job.stops.len(),
-            job.locations,
-            job.distances.as_ptr(),
-            job.distances.len(),
-            job.linear,
-            job.quadratic,
-            job.missed,
-            plan.as_mut_ptr(),
-            plan.len(),
-            first,
-            second,
-            cost,
+/// Improves a plan by the two-opt move of two stops, and answers its cost.
+#[rustfmt::skip]
+pub fn two_opt(job: &Job, plan: &mut [u32], [first, second]: [u32; 2]) -> Result<f64, Refusal> {
+    let mut cost = 0.0;
+    let number = unsafe {
+        raw::planner_two_opt(
+            job.vehicles.as_ptr(), job.vehicles.len(), job.stops.as_ptr(), job.stops.len(), job.locations,
+            job.distances.as_ptr(), job.distances.len(), job.linear, job.quadratic, job.missed,
+            plan.as_mut_ptr(), plan.len(), first, second, &mut cost,
         )
-    }
+    };
+
+    answer(number, cost)
 }
 
-// Rebuilds a plan round one or two stops, and weighs it.
-pub fn rebuild(job: &Job, plan: &mut [u32], given: &[u32], cost: &mut f64) -> u32 {
-    unsafe {
-        planner_rebuild(
-            job.vehicles.as_ptr(),
-            job.vehicles.len(),
-            job.stops.as_ptr(),
-            job.stops.len(),
-            job.locations,
-            job.distances.as_ptr(),
-            job.distances.len(),
-            job.linear,
-            job.quadratic,
-            job.missed,
-            plan.as_mut_ptr(),
-            plan.len(),
-            given.as_ptr(),
-            given.len(),
-            cost,
+/// Rebuilds a plan round one or two stops, and answers its cost.
+#[rustfmt::skip]
+pub fn rebuild(job: &Job, plan: &mut [u32], given: &[u32]) -> Result<f64, Refusal> {
+    let mut cost = 0.0;
+    let number = unsafe {
+        raw::planner_rebuild(
+            job.vehicles.as_ptr(), job.vehicles.len(), job.stops.as_ptr(), job.stops.len(), job.locations,
+            job.distances.as_ptr(), job.distances.len(), job.linear, job.quadratic, job.missed,
+            plan.as_mut_ptr(), plan.len(), given.as_ptr(), given.len(), &mut cost,
         )
-    }
+    };
+
+    answer(number, cost)
 }
 
-// Writes the plan that the exhaustive solver chooses, and weighs it.
-pub fn exhaustive(job: &Job, plan: &mut [u32], cost: &mut f64) -> u32 {
-    unsafe {
-        planner_exhaustive(
-            job.vehicles.as_ptr(),
-            job.vehicles.len(),
-            job.stops.as_ptr(),
-            job.stops.len(),
-            job.locations,
-            job.distances.as_ptr(),
-            job.distances.len(),
-            job.linear,
-            job.quadratic,
-            job.missed,
-            plan.as_mut_ptr(),
-            plan.len(),
-            cost,
+/// Writes the best of all plans, for at most 6 stops and 3 vehicles, and answers its cost. What the plan held is not read.
+#[rustfmt::skip]
+pub fn exhaustive(job: &Job, plan: &mut [u32]) -> Result<f64, Refusal> {
+    let mut cost = 0.0;
+    let number = unsafe {
+        raw::planner_exhaustive(
+            job.vehicles.as_ptr(), job.vehicles.len(), job.stops.as_ptr(), job.stops.len(), job.locations,
+            job.distances.as_ptr(), job.distances.len(), job.linear, job.quadratic, job.missed,
+            plan.as_mut_ptr(), plan.len(), &mut cost,
         )
-    }
+    };
+
+    answer(number, cost)
 }
 
-// Writes the plan that the pruned solver chooses, and weighs it.
-pub fn pruned(job: &Job, plan: &mut [u32], cost: &mut f64) -> u32 {
-    unsafe {
-        planner_pruned(
-            job.vehicles.as_ptr(),
-            job.vehicles.len(),
-            job.stops.as_ptr(),
-            job.stops.len(),
-            job.locations,
-            job.distances.as_ptr(),
-            job.distances.len(),
-            job.linear,
-            job.quadratic,
-            job.missed,
-            plan.as_mut_ptr(),
-            plan.len(),
-            cost,
+/// Writes the best of the plans that the pruned search reaches, for at most 6 stops and 3 vehicles, and answers its cost. What
+/// the plan held is not read.
+#[rustfmt::skip]
+pub fn pruned(job: &Job, plan: &mut [u32]) -> Result<f64, Refusal> {
+    let mut cost = 0.0;
+    let number = unsafe {
+        raw::planner_pruned(
+            job.vehicles.as_ptr(), job.vehicles.len(), job.stops.as_ptr(), job.stops.len(), job.locations,
+            job.distances.as_ptr(), job.distances.len(), job.linear, job.quadratic, job.missed,
+            plan.as_mut_ptr(), plan.len(), &mut cost,
         )
-    }
+    };
+
+    answer(number, cost)
 }
 
-// Runs the planner.
-pub fn solve(
-    job: &Job,
-    smoothing: u32,
-    limit: u32,
-    draws: &[u32],
-    plan: &mut [u32],
-    totals: &mut Totals,
-) -> u32 {
-    unsafe {
-        planner_solve(
-            job.vehicles.as_ptr(),
-            job.vehicles.len(),
-            job.stops.as_ptr(),
-            job.stops.len(),
-            job.locations,
-            job.distances.as_ptr(),
-            job.distances.len(),
-            job.linear,
-            job.quadratic,
-            job.missed,
-            smoothing,
-            limit,
-            draws.as_ptr(),
-            draws.len(),
-            plan.as_mut_ptr(),
-            plan.len(),
-            &mut totals.start,
-            &mut totals.end,
-            &mut totals.rounds,
-            &mut totals.improving,
-            &mut totals.settled,
+/// Runs the planner: the start plan, then rounds until the run settles or its limit cuts it. What the plan held is not read.
+#[rustfmt::skip]
+pub fn solve(job: &Job, running: &Running, plan: &mut [u32]) -> Result<Totals, Refusal> {
+    let mut totals = Totals::default();
+    let mut settled = 0;
+    let number = unsafe {
+        raw::planner_solve(
+            job.vehicles.as_ptr(), job.vehicles.len(), job.stops.as_ptr(), job.stops.len(), job.locations,
+            job.distances.as_ptr(), job.distances.len(), job.linear, job.quadratic, job.missed,
+            running.smoothing, running.limit, running.draws.as_ptr(), running.draws.len(), plan.as_mut_ptr(), plan.len(),
+            &mut totals.start, &mut totals.end, &mut totals.rounds, &mut totals.improving, &mut settled,
         )
-    }
+    };
+
+    answer(number, Totals { settled: settled != 0, ..totals })
 }

@@ -1,6 +1,6 @@
-// A host in Rust: Job A, planned by each call, with the same lines as the host in C.
-mod planner;
-use planner::{Job, Totals};
+//! A host in Rust: Job A, planned by each call, with the same lines as the hosts in C and Python.
+
+use planner::{Job, Refusal, Running};
 
 const JOB: Job = Job {
     vehicles: &[0, 0],
@@ -12,58 +12,53 @@ const JOB: Job = Job {
     missed: 100,
 };
 
-fn show_plan(plan: &[u32]) {
-    print!(" plan");
-    for number in plan {
-        print!(" {number}");
-    }
-    println!();
+/// A line: the call's name, its values or the number of its refusal, and the plan.
+fn show(name: &str, answer: Result<String, Refusal>, plan: &[u32]) {
+    let answer = answer.unwrap_or_else(|refusal| format!(" refused {}", refusal.0));
+    let plan = plan.iter().map(u32::to_string).collect::<Vec<_>>();
+
+    println!("{name}{answer} plan {}", plan.join(" "));
 }
 
-fn show(name: &str, refused: u32, cost: f64, plan: &[u32]) {
-    print!("{name} {refused} cost {cost}");
-    show_plan(plan);
+fn show_cost(name: &str, answer: Result<f64, Refusal>, plan: &[u32]) {
+    show(name, answer.map(|cost| format!(" cost {cost}")), plan);
 }
 
-// solve, on the first `length` numbers of a plan
-fn solve(plan: &mut [u32], length: usize) {
-    let mut totals = Totals {
-        start: -1.0,
-        end: -1.0,
-        rounds: 7,
-        improving: 7,
-        settled: 7,
+fn show_start_plan(plan: &mut [u32]) {
+    let answer = planner::start_plan(&JOB, plan);
+
+    show("start_plan", answer.map(|()| String::new()), plan);
+}
+
+fn show_run(limit: u32, plan: &mut [u32]) {
+    let running = Running {
+        smoothing: 1,
+        limit,
+        draws: &[0],
     };
-    let refused = planner::solve(&JOB, 1, 50, &[0], &mut plan[..length], &mut totals);
-    print!(
-        "solve {refused} start {} end {} rounds {} improving {} settled {}",
-        totals.start, totals.end, totals.rounds, totals.improving, totals.settled
-    );
-    show_plan(plan);
+    let answer = planner::solve(&JOB, &running, plan).map(|totals| {
+        format!(
+            " start {} end {} rounds {} improving {} settled {}",
+            totals.start, totals.end, totals.rounds, totals.improving, totals.settled as u32
+        )
+    });
+
+    show("solve", answer, plan);
 }
 
 fn main() {
-    let mut plan = [5, 5, 5];
-    let mut cost = -1.0;
+    let plan = &mut [5, 5, 5];
 
-    solve(&mut plan, 2); // a plan that is too short: refused, with everything as it was
-    solve(&mut plan, 3);
-    let refused = planner::start_plan(&JOB, &mut plan);
-    show("start_plan", refused, cost, &plan);
-    let refused = planner::weigh(&JOB, &plan, &mut cost);
-    show("weigh", refused, cost, &plan);
-    let refused = planner::two_opt(&JOB, &mut plan, 0, 0, &mut cost); // one stop twice: refused
-    show("two_opt", refused, cost, &plan);
-    let refused = planner::two_opt(&JOB, &mut plan, 0, 1, &mut cost);
-    show("two_opt", refused, cost, &plan);
-    planner::start_plan(&JOB, &mut plan);
-    let refused = planner::rebuild(&JOB, &mut plan, &[0], &mut cost);
-    show("rebuild", refused, cost, &plan);
-    planner::start_plan(&JOB, &mut plan);
-    let refused = planner::rebuild(&JOB, &mut plan, &[0, 1], &mut cost);
-    show("rebuild", refused, cost, &plan);
-    let refused = planner::exhaustive(&JOB, &mut plan, &mut cost);
-    show("exhaustive", refused, cost, &plan);
-    let refused = planner::pruned(&JOB, &mut plan, &mut cost);
-    show("pruned", refused, cost, &plan);
+    show_run(0, plan); // no rounds allowed: refused, with the plan as it was
+    show_run(50, plan);
+    show_start_plan(plan);
+    show_cost("weigh", planner::weigh(&JOB, plan), plan);
+    show_cost("two_opt", planner::two_opt(&JOB, plan, [0, 0]), plan); // one stop twice: refused
+    show_cost("two_opt", planner::two_opt(&JOB, plan, [0, 1]), plan);
+    show_start_plan(plan);
+    show_cost("rebuild", planner::rebuild(&JOB, plan, &[0]), plan);
+    show_start_plan(plan);
+    show_cost("rebuild", planner::rebuild(&JOB, plan, &[0, 1]), plan);
+    show_cost("exhaustive", planner::exhaustive(&JOB, plan), plan);
+    show_cost("pruned", planner::pruned(&JOB, plan), plan);
 }
