@@ -51,6 +51,12 @@ fn edge_sheet(random: &mut Random, call: Call) -> Sheet {
     };
 
     job.draws.truncate(random.choose(&[1, 2, 1_024]));
+
+    // The longest legs, for the highest costs.
+    if random.once_in(3) {
+        job.distances.iter_mut().for_each(|row| row.fill(200_000));
+    }
+
     sheet(random, call, job)
 }
 
