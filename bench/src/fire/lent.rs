@@ -5,6 +5,12 @@ use generate::Random;
 use planner::raw;
 use sheet::Call;
 
+/// What may differ after a call.
+const READ: &str = "a list that is only read, or a number beside it";
+const PLAN: &str = "the plan, or a number beside it";
+const COST: &str = "a cost, or a number beside it";
+const COUNT: &str = "a count of rounds, the word of settling, or a number beside it";
+
 /// Numbers with guard numbers before and after them.
 struct Guarded<T> {
     memory: Vec<T>,
@@ -159,24 +165,21 @@ impl Lent {
         };
 
         [
-            (
-                read.iter().all(|list| list.is_unchanged()),
-                "a list that is only read, or a number beside it",
-            ),
-            (holds(&self.plan, plan), "the plan, or a number beside it"),
+            (read.iter().all(|list| list.is_unchanged()), READ),
+            (holds(&self.plan, plan), PLAN),
             (
                 self.costs
                     .iter()
                     .zip(&costs)
                     .all(|(cost, wanted)| holds(cost, wanted.as_ref().map(std::slice::from_ref))),
-                "a cost, or a number beside it",
+                COST,
             ),
             (
                 self.counts
                     .iter()
                     .zip(&counts)
                     .all(|(count, wanted)| holds(count, wanted.as_ref().map(std::slice::from_ref))),
-                "a count of rounds, the word of settling, or a number beside it",
+                COUNT,
             ),
         ]
         .into_iter()
@@ -201,8 +204,10 @@ mod tests {
     use super::*;
     use sheet::sheet_a;
 
-    /// A call on Job A with numbers that are changed after it as the library's would be by a fault.
-    fn check(fault: fn(&mut Lent), limit: u32, name: Option<&str>) {
+    type Fault = fn(&mut Lent);
+
+    /// A call on Job A, after which numbers are changed as a fault of the library could.
+    fn check(fault: Fault, limit: u32, name: Option<&str>) {
         let random = &mut Random::new(1, 1);
         let mut arguments = Arguments::new(sheet_a(Call::Solve), || 5);
 
@@ -216,42 +221,21 @@ mod tests {
         assert_eq!(lent.difference(&outcome), name);
     }
 
-    const FAULTS: [(fn(&mut Lent), &str); 9] = [
+    const FAULTS: [(Fault, &str); 9] = [
+        (|lent| lent.vehicles.memory[0] ^= 1, READ),
+        (|lent| *lent.stops.memory.last_mut().unwrap() ^= 1, READ),
         (
-            |lent| lent.vehicles.memory[0] += 1,
-            "a list that is only read, or a number beside it",
+            |lent| lent.distances.memory[lent.distances.start] ^= 1,
+            READ,
         ),
-        (
-            |lent| *lent.stops.memory.last_mut().unwrap() += 1,
-            "a list that is only read, or a number beside it",
-        ),
-        (
-            |lent| lent.distances.memory[lent.distances.start] += 1,
-            "a list that is only read, or a number beside it",
-        ),
-        (
-            |lent| lent.plan.memory[lent.plan.start - 1] += 1,
-            "the plan, or a number beside it",
-        ),
-        (
-            |lent| lent.plan.memory[lent.plan.end] += 1,
-            "the plan, or a number beside it",
-        ),
-        (
-            |lent| lent.plan.memory[lent.plan.start] += 1,
-            "the plan, or a number beside it",
-        ),
-        (
-            |lent| lent.costs[1].memory[lent.costs[1].start] += 1,
-            "a cost, or a number beside it",
-        ),
-        (
-            |lent| lent.costs[0].memory[lent.costs[0].end] += 1,
-            "a cost, or a number beside it",
-        ),
+        (|lent| lent.plan.memory[lent.plan.start - 1] ^= 1, PLAN),
+        (|lent| lent.plan.memory[lent.plan.end] ^= 1, PLAN),
+        (|lent| lent.plan.memory[lent.plan.start] ^= 1, PLAN),
+        (|lent| lent.costs[1].memory[lent.costs[1].start] ^= 1, COST),
+        (|lent| lent.costs[0].memory[lent.costs[0].end] ^= 1, COST),
         (
             |lent| lent.counts[2].memory[lent.counts[2].start] ^= 1,
-            "a count of rounds, the word of settling, or a number beside it",
+            COUNT,
         ),
     ];
 
