@@ -1,16 +1,19 @@
 """The calls of include/planner.h for hosts in Python: lists in, values out.
 
-    import planner
-
-    job = planner.Job(
-        vehicles=[(0, 0)],                          # start and end location of each vehicle
-        stops=[1, 2],                               # location of each stop
-        distances=[[0, 2, 3], [2, 0, 9], [9, 1, 0]],  # whole metres, row = from, column = to
-        linear=1, quadratic=0, missed=100,          # price of a metre, of a squared metre, of a missed stop
-    )
-    run = planner.solve(job, smoothing=1, limit=50, draws=[0])
-    run.end                                         # 6
-    planner.routes(job, run.plan)                   # [[1, 0]]
+    >>> import planner
+    >>> job = planner.Job(
+    ...     vehicles=[(0, 0)],  # start and end location of each vehicle
+    ...     stops=[1, 2],  # location of each stop
+    ...     distances=[[0, 2, 3], [2, 0, 9], [9, 1, 0]],  # whole metres, row = from, column = to
+    ...     linear=1, quadratic=0, missed=100,  # price of a metre, of a squared metre, of a missed stop
+    ... )
+    >>> run = planner.solve(job, smoothing=1, limit=50, draws=[0])
+    >>> run.end, planner.routes(job, run.plan)
+    (6, [[1, 0]])
+    >>> planner.two_opt(job, run.plan, 0, 0)
+    Traceback (most recent call last):
+        ...
+    planner.Refused: refused, 12: a given stop does not exist, the given stops are equal, or (rebuild) they are not one or two
 
 A plan is a list of a number for each vehicle and each stop: the lengths of the routes, then the stops of route 0, route 1 and
 so on, then UNUSED in each place that is left. Costs are whole numbers. No list that is passed is changed.

@@ -6,6 +6,31 @@
 //!
 //! A plan is a number for each vehicle and each stop: the lengths of the routes, then the stops of route 0, route 1 and so on,
 //! then [`UNUSED`] in each place that is left.
+//!
+//! ```
+//! use planner::{Job, Refusal, Running};
+//!
+//! let job = Job {
+//!     vehicles: &[0, 0],
+//!     stops: &[1, 2],
+//!     locations: 3,
+//!     distances: &[0, 2, 3, 2, 0, 9, 9, 1, 0],
+//!     linear: 1,
+//!     quadratic: 0,
+//!     missed: 100,
+//! };
+//! let running = Running { smoothing: 1, limit: 50, draws: &[0] };
+//! let mut plan = [planner::UNUSED; 3];
+//! let totals = planner::solve(&job, &running, &mut plan)?;
+//!
+//! assert_eq!((totals.end, plan), (6.0, [2, 1, 0]));
+//!
+//! let refusal = planner::two_opt(&job, &mut plan, [0, 0]).unwrap_err();
+//!
+//! assert_eq!(refusal, Refusal(12));
+//! eprintln!("{refusal}"); // refused, 12: a given stop does not exist, ..
+//! # Ok::<(), Refusal>(())
+//! ```
 
 pub mod raw;
 mod refusal;

@@ -2,6 +2,7 @@ use std::{error::Error, fmt};
 
 /// A line for each refusal: its number, and the sentence that says what it means.
 const SENTENCES: &str = include_str!("../../../../include/refusals.txt");
+const UNKNOWN: &str = "a number that the table does not have";
 
 /// Why a call was refused: the lowest number of the table in include/planner.h that applies to its arguments.
 #[derive(Clone, Copy, Debug, Eq, PartialEq)]
@@ -14,9 +15,7 @@ impl Refusal {
             .lines()
             .filter_map(|line| line.split_once(' '))
             .find(|(number, _)| *number == self.0.to_string())
-            .map_or("a number that the table does not have", |(_, sentence)| {
-                sentence
-            })
+            .map_or(UNKNOWN, |(_, sentence)| sentence)
     }
 }
 
@@ -33,5 +32,17 @@ pub(crate) fn answer<T>(number: u32, value: T) -> Result<T, Refusal> {
     match number {
         0 => Ok(value),
         _ => Err(Refusal(number)),
+    }
+}
+
+#[cfg(test)]
+mod tests {
+    use super::*;
+
+    #[test]
+    fn has_a_sentence_for_each_number() {
+        let known = (0..100).filter(|&number| Refusal(number).sentence() != UNKNOWN);
+
+        assert!(known.eq(1..=14));
     }
 }
