@@ -24,7 +24,7 @@
  *
  * A cost is a whole number, exact in a double.
  *
- * Refusals:
+ * Refusals (refusals.txt, beside this file, has a sentence for each):
  *    1  vehicles_len odd or over 32             8  a price over its limit: 1000000, 16, 10000000000000
  *    2  stops_len over 64                       9  smoothing outside 1 to 1000
  *    3  locations over 80, or                  10  limit outside 1 to 1000000

@@ -1,6 +1,7 @@
 //! The answers of call sheets by the static library, its refusals among them.
 
-use crate::proved::{self, Answer};
+use crate::proved;
+use planner::Refusal;
 use sheet::{costs, numbers, run_line, Call, Sheet};
 
 pub fn answer(sheet: &Sheet) -> String {
@@ -18,7 +19,7 @@ pub fn answer(sheet: &Sheet) -> String {
 
     match answer {
         Ok(line) => line + &plan_line,
-        Err(number) => {
+        Err(Refusal(number)) => {
             assert_eq!(plan, before, "a refused call's plan");
             costs([number as u64])
         }
@@ -26,7 +27,7 @@ pub fn answer(sheet: &Sheet) -> String {
 }
 
 /// Makes the call, and answers the line of its cost or its run.
-fn call(sheet: &Sheet, plan: &mut [u32]) -> Answer<String> {
+fn call(sheet: &Sheet, plan: &mut [u32]) -> Result<String, Refusal> {
     let job = &sheet.job;
     let line = |cost: f64| costs([cost as u64]);
 
@@ -44,29 +45,18 @@ fn call(sheet: &Sheet, plan: &mut [u32]) -> Answer<String> {
 #[cfg(test)]
 mod tests {
     use super::*;
-    use sheet::job_a;
-
-    fn sheet(call: Call) -> Sheet {
-        Sheet {
-            call,
-            given: vec![0, 1],
-            plan: vec![2, 0, 1],
-            job: job_a(),
-        }
-    }
+    use sheet::sheet_a;
 
     /// Checks the number that each of the calls refuses a changed sheet with; the others accept it.
     fn check(calls: &[Call], number: u32, change: impl Fn(&mut Sheet)) {
         for call in Call::ALL {
-            let mut sheet = sheet(call);
+            let mut sheet = sheet_a(call);
+            let mut plan = vec![2, 0, 1];
 
             change(&mut sheet);
-
-            let mut plan = sheet.plan.clone();
-
             assert_eq!(
                 super::call(&sheet, &mut plan).err(),
-                calls.contains(&call).then_some(number),
+                calls.contains(&call).then_some(Refusal(number)),
                 "{call:?}"
             );
         }

@@ -1,7 +1,9 @@
-//! Measures the proved planner, the solver's Rust and the plain rewrite on the same jobs in one process, and prints tables.
+//! Measures the proved planner, the solver's Rust and the plain rewrite on the same jobs in one process, compares them, and prints
+//! tables.
 
 mod calls;
 mod clock;
+mod fire;
 mod proved;
 mod stack;
 mod times;
@@ -9,6 +11,7 @@ mod times;
 use sheet::{answer_sheets_by, encode, Job, Planner, Routes, Run};
 use std::{
     env,
+    error::Error,
     io::{self, Read},
     process::ExitCode,
 };
@@ -17,6 +20,8 @@ const USAGE: &str = "\
 usage: bench times                     tables of times
        bench stack                     a table of the least stacks
        bench calls < SHEETS            the answers of call sheets by the static library
+       bench fire COUNT SEED [FIRST]   calls of the static library with random arguments of every kind, from number FIRST
+                                       (0) on, each compared with the table of refusals and the plain rewrite
        bench run SIDE V N L LIMIT      one run, to be looked at by other tools
        bench call CALL KIBIBYTES       one call on a stack of that size
 SIDE: proved, oracle or plain";
@@ -73,44 +78,52 @@ fn main() -> ExitCode {
     let arguments = env::args().skip(1).collect::<Vec<_>>();
 
     match run(&arguments) {
-        Some(text) => {
+        Ok(text) => {
             print!("{text}");
             ExitCode::SUCCESS
         }
-        None => {
-            eprintln!("{USAGE}");
+        Err(text) => {
+            eprintln!("{text}");
             ExitCode::FAILURE
         }
     }
 }
 
-fn run(arguments: &[String]) -> Option<String> {
+/// What a command prints, or what is wrong.
+fn run(arguments: &[String]) -> Result<String, String> {
     let words = arguments.iter().map(String::as_str).collect::<Vec<_>>();
 
     match words[..] {
-        ["times"] => Some(times::tables()),
-        ["stack"] => Some(stack::table()),
-        ["calls"] => answer_sheets(),
+        ["times"] => Ok(times::tables()),
+        ["stack"] => Ok(stack::table()),
+        ["calls"] => answer_sheets().map_err(|error| error.to_string()),
+        ["fire", count, seed] => fire::fire(number(count)?, number(seed)?, 0),
+        ["fire", count, seed, first] => fire::fire(number(count)?, number(seed)?, number(first)?),
         ["call", call, size] => {
-            stack::call(call, size.parse().ok()?);
-            Some(String::new())
+            stack::call(call, number(size)? as usize);
+            Ok(String::new())
         }
         ["run", side, vehicles, stops, locations, limit] => {
-            let sizes = [vehicles, stops, locations].map(|word| word.parse().unwrap_or(1));
-            let side = SIDES.iter().find(|other| other.name == side)?;
-            let (run, _) = (side.solve)(&job(sizes, 0, limit.parse().ok()?));
+            let sizes = [number(vehicles)?, number(stops)?, number(locations)?];
+            let side = SIDES.iter().find(|other| other.name == side);
+            let side = side.ok_or(USAGE)?;
+            let (run, _) = (side.solve)(&job(sizes, 0, number(limit)? as u32));
 
-            Some(format!("{run:?}\n"))
+            Ok(format!("{run:?}\n"))
         }
-        _ => None,
+        _ => Err(USAGE.to_string()),
     }
 }
 
-fn answer_sheets() -> Option<String> {
+fn number(word: &str) -> Result<u64, String> {
+    word.parse().map_err(|_| USAGE.to_string())
+}
+
+fn answer_sheets() -> Result<String, Box<dyn Error>> {
     let (mut input, mut output) = (vec![], vec![]);
 
-    io::stdin().lock().read_to_end(&mut input).ok()?;
-    answer_sheets_by(calls::answer, &input, &mut output).ok()?;
+    io::stdin().lock().read_to_end(&mut input)?;
+    answer_sheets_by(calls::answer, &input, &mut output)?;
 
-    String::from_utf8(output).ok()
+    Ok(String::from_utf8(output)?)
 }

@@ -71,7 +71,7 @@ pub fn call(call: &str, size: usize) {
     thread::Builder::new()
         .stack_size(size << 10)
         .spawn(move || make(&call, &job))
-        .and_then(|thread| Ok(thread.join()))
+        .map(thread::JoinHandle::join)
         .expect("a thread")
         .expect("a call");
 }

@@ -17,7 +17,7 @@ type Calculator<'a> = DeliveryCostCalculator<&'a TableRouter, &'a Problem>;
 type Solver<'a> =
     RuinAndRecreateSolver<Calculator<'a>, &'a TableRouter, NearestNeighborSolver<&'a TableRouter>>;
 
-pub struct Original {}
+pub struct Original;
 
 impl Planner for Original {
     fn weigh(job: &Job, routes: &Routes) -> u64 {

@@ -1,7 +1,7 @@
 //! Recorded answers: a fixed list of call sheets, what the solver's Rust answers, and how many sheets there are of each
 //! kind.
 
-use sheet::{answer_sheets, decode, refusal, write_sheet, Call, Planner, Sheet};
+use sheet::{answer_sheets, call_table, decode, refusal, write_sheet, Call, Planner, Sheet};
 use std::{collections::BTreeMap, fs, io, path::Path};
 
 /// Writes the sheets to DIRECTORY/stdin and the answers to DIRECTORY/stdout, and answers a table of what they are.
@@ -38,37 +38,24 @@ fn summary(sheets: &[Sheet]) -> String {
         }
     }
 
-    let header =
-        "| sheets | weigh | start | two-opt | rebuild | exhaustive | pruned | solve | sum |\n";
-    let rows = HEADINGS.iter().flat_map(|heading| {
-        counts
-            .iter()
-            .filter(move |((other, _), _)| other == heading)
-            .map(|((heading, label), counts)| row(heading, label, counts))
-    });
-
-    [header.to_string(), "|---".repeat(9) + "|\n"]
-        .into_iter()
-        .chain(rows)
-        .collect()
+    call_table(
+        "sheets",
+        HEADINGS.iter().flat_map(|heading| {
+            counts
+                .iter()
+                .filter(move |((other, _), _)| other == heading)
+                .map(|((heading, label), counts)| (name(heading, label), *counts))
+        }),
+    )
 }
 
-fn row(heading: &str, label: &str, counts: &[usize; 7]) -> String {
-    let cells = counts
-        .iter()
-        .map(|&count| match count {
-            0 => " |".to_string(),
-            _ => format!(" {count} |"),
-        })
-        .collect::<String>();
-    // Numbers are aligned for the sake of the order alone.
-    let name = [heading]
+/// A row's name. Numbers in a label are aligned for the sake of the order alone.
+fn name(heading: &str, label: &str) -> String {
+    [heading]
         .into_iter()
         .chain(label.split_whitespace())
         .collect::<Vec<_>>()
-        .join(" ");
-
-    format!("| {name} |{cells} {} |\n", counts.iter().sum::<usize>())
+        .join(" ")
 }
 
 fn kinds(sheet: &Sheet) -> Vec<Kind> {

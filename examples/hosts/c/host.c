@@ -1,6 +1,7 @@
-/* A host in C: Job A, planned by each call. Every line is the call's name, the number that it returned, its values and the plan. */
+/* A host in C: Job A, planned by each call. A line is the call's name, its values or the number of its refusal, and the plan. */
 #include <inttypes.h>
 #include <stdio.h>
+#include <stdlib.h>
 #include "planner.h"
 
 #define COUNT(list) (sizeof(list) / sizeof(list[0]))
@@ -13,58 +14,103 @@ static const uint32_t draws[] = {0};
 #define LISTS vehicles, COUNT(vehicles), stops, COUNT(stops), 3, distances, COUNT(distances)
 #define PRICES 1, 0, 100
 
-static void show_plan(const uint32_t *plan, size_t length)
+/* the plan of 1 vehicle and 2 stops, which every call is lent */
+static uint32_t plan[] = {5, 5, 5};
+
+static void show_plan(void)
 {
     printf(" plan");
-    for (size_t i = 0; i < length; i++)
+    for (size_t i = 0; i < COUNT(plan); i++)
         printf(" %" PRIu32, plan[i]);
     printf("\n");
 }
 
-static void show(const char *name, uint32_t refused, double cost, const uint32_t *plan, size_t length)
+/* a call that answers a cost, which is -1 before it: a refused call leaves its results as they were */
+static void show_cost(const char *name, uint32_t refused, double cost)
 {
-    printf("%s %" PRIu32 " cost %.0f", name, refused, cost);
-    show_plan(plan, length);
+    if (refused && cost != -1)
+        abort();
+    if (refused)
+        printf("%s refused %" PRIu32, name, refused);
+    else
+        printf("%s cost %.0f", name, cost);
+    show_plan();
 }
 
-/* solve, on the first `length` numbers of a plan */
-static void solve(uint32_t *plan, size_t length)
+static void show_run(uint32_t limit)
 {
     double start = -1, end = -1;
     uint32_t rounds = 7, improving = 7, settled = 7;
-    uint32_t refused = planner_solve(LISTS, PRICES, 1, 50, draws, COUNT(draws), plan, length, &start, &end, &rounds, &improving, &settled);
-    printf("solve %" PRIu32 " start %.0f end %.0f rounds %" PRIu32 " improving %" PRIu32 " settled %" PRIu32,
-           refused, start, end, rounds, improving, settled);
-    show_plan(plan, 3);
+    uint32_t refused = planner_solve(LISTS, PRICES, 1, limit, draws, COUNT(draws), plan, COUNT(plan), &start, &end, &rounds, &improving, &settled);
+    if (refused && (start != -1 || end != -1 || rounds != 7 || improving != 7 || settled != 7))
+        abort();
+    if (refused)
+        printf("solve refused %" PRIu32, refused);
+    else
+        printf("solve start %.0f end %.0f rounds %" PRIu32 " improving %" PRIu32 " settled %" PRIu32, start, end, rounds, improving, settled);
+    show_plan();
+}
+
+static void show_start_plan(void)
+{
+    uint32_t refused = planner_start_plan(LISTS, plan, COUNT(plan));
+    if (refused)
+        printf("start_plan refused %" PRIu32, refused);
+    else
+        printf("start_plan");
+    show_plan();
+}
+
+static void show_weigh(void)
+{
+    double cost = -1;
+    uint32_t refused = planner_weigh(LISTS, PRICES, plan, COUNT(plan), &cost);
+    show_cost("weigh", refused, cost);
+}
+
+static void show_two_opt(uint32_t first, uint32_t second)
+{
+    double cost = -1;
+    uint32_t refused = planner_two_opt(LISTS, PRICES, plan, COUNT(plan), first, second, &cost);
+    show_cost("two_opt", refused, cost);
+}
+
+static void show_rebuild(const uint32_t *given, size_t count)
+{
+    double cost = -1;
+    uint32_t refused = planner_rebuild(LISTS, PRICES, plan, COUNT(plan), given, count, &cost);
+    show_cost("rebuild", refused, cost);
+}
+
+static void show_exhaustive(void)
+{
+    double cost = -1;
+    uint32_t refused = planner_exhaustive(LISTS, PRICES, plan, COUNT(plan), &cost);
+    show_cost("exhaustive", refused, cost);
+}
+
+static void show_pruned(void)
+{
+    double cost = -1;
+    uint32_t refused = planner_pruned(LISTS, PRICES, plan, COUNT(plan), &cost);
+    show_cost("pruned", refused, cost);
 }
 
 int main(void)
 {
-    uint32_t plan[] = {5, 5, 5};
-    const uint32_t one[] = {0};
     const uint32_t both[] = {0, 1};
-    double cost = -1;
-    uint32_t refused;
 
-    solve(plan, 2); /* a plan that is too short: refused, with everything as it was */
-    solve(plan, 3);
-    refused = planner_start_plan(LISTS, plan, 3);
-    show("start_plan", refused, cost, plan, 3);
-    refused = planner_weigh(LISTS, PRICES, plan, 3, &cost);
-    show("weigh", refused, cost, plan, 3);
-    refused = planner_two_opt(LISTS, PRICES, plan, 3, 0, 0, &cost); /* one stop twice: refused */
-    show("two_opt", refused, cost, plan, 3);
-    refused = planner_two_opt(LISTS, PRICES, plan, 3, 0, 1, &cost);
-    show("two_opt", refused, cost, plan, 3);
-    planner_start_plan(LISTS, plan, 3);
-    refused = planner_rebuild(LISTS, PRICES, plan, 3, one, COUNT(one), &cost);
-    show("rebuild", refused, cost, plan, 3);
-    planner_start_plan(LISTS, plan, 3);
-    refused = planner_rebuild(LISTS, PRICES, plan, 3, both, COUNT(both), &cost);
-    show("rebuild", refused, cost, plan, 3);
-    refused = planner_exhaustive(LISTS, PRICES, plan, 3, &cost);
-    show("exhaustive", refused, cost, plan, 3);
-    refused = planner_pruned(LISTS, PRICES, plan, 3, &cost);
-    show("pruned", refused, cost, plan, 3);
+    show_run(0); /* no rounds allowed: refused, with everything as it was */
+    show_run(50);
+    show_start_plan();
+    show_weigh();
+    show_two_opt(0, 0); /* one stop twice: refused */
+    show_two_opt(0, 1);
+    show_start_plan();
+    show_rebuild(both, 1);
+    show_start_plan();
+    show_rebuild(both, 2);
+    show_exhaustive();
+    show_pruned();
     return 0;
 }

@@ -9,9 +9,11 @@ mod refused;
 mod sheet;
 
 pub use crate::{
-    job::{long_job, sufficient, Sizes},
+    job::{long_job, small_job, sufficient, Sizes},
     random::Random,
     recorded::recorded_sheets,
+    refused::refuse,
+    sheet::{accepted_sheet, plan, sheet},
 };
 
 use ::sheet::{write_job, write_sheet, Call};

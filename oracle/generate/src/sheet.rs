@@ -53,9 +53,10 @@ pub fn small_sheet(random: &mut Random) -> Sheet {
     sheet(random, call, job)
 }
 
-fn sheet(random: &mut Random, call: Call, job: Job) -> Sheet {
+/// A sheet of a job, with a plan and given stops where the call has them.
+pub fn sheet(random: &mut Random, call: Call, job: Job) -> Sheet {
     let plan = if call.has_plan() {
-        plan(random, &job)
+        plan(random, job.vehicles.len(), job.stops.len())
     } else {
         vec![]
     };
@@ -74,9 +75,9 @@ fn sheet(random: &mut Random, call: Call, job: Job) -> Sheet {
 }
 
 /// A plan with all, most, some or no stops placed, on all vehicles or on few.
-fn plan(random: &mut Random, job: &Job) -> Vec<u32> {
-    let mut routes = vec![vec![]; job.vehicles.len()];
-    let mut stops = (0..job.stops.len()).collect::<Vec<_>>();
+pub fn plan(random: &mut Random, vehicle_count: usize, stop_count: usize) -> Vec<u32> {
+    let mut routes = vec![vec![]; vehicle_count];
+    let mut stops = (0..stop_count).collect::<Vec<_>>();
     let unplaced = random.choose(&[0, 0, 0, 1, 5, 10]);
     let used = match random.below(3) {
         0 => 1,
@@ -100,7 +101,7 @@ fn plan(random: &mut Random, job: &Job) -> Vec<u32> {
         }
     }
 
-    encode(&routes, job.stops.len())
+    encode(&routes, stop_count)
 }
 
 /// Stops of a call. Where there are too few, some that are refused.

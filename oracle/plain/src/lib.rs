@@ -14,7 +14,7 @@ use day::Day;
 use plan::Plan;
 use sheet::{Job, Planner, Routes, Run};
 
-pub struct Plain {}
+pub struct Plain;
 
 impl Planner for Plain {
     fn weigh(job: &Job, routes: &Routes) -> u64 {

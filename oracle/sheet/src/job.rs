@@ -83,3 +83,21 @@ pub fn job_a() -> Job {
         draws: vec![0],
     }
 }
+
+/// A call on Job A: the plan of both stops in order, and both stops given, where the call has them.
+pub fn sheet_a(call: Call) -> Sheet {
+    Sheet {
+        call,
+        given: if call.has_given_stops() {
+            vec![0, 1]
+        } else {
+            vec![]
+        },
+        plan: if call.has_plan() {
+            vec![2, 0, 1]
+        } else {
+            vec![]
+        },
+        job: job_a(),
+    }
+}

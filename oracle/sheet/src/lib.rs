@@ -5,13 +5,15 @@ mod plan;
 mod print;
 mod read;
 mod refuse;
+mod table;
 mod write;
 
-pub use job::{job_a, Call, Job, Sheet};
+pub use job::{job_a, sheet_a, Call, Job, Sheet};
 pub use plan::{decode, encode, Routes, UNUSED};
 pub use print::{answer_sheets, answer_sheets_by, costs, run_line, shuttle};
 pub use read::{read_job, read_sheet, Malformed};
 pub use refuse::refusal;
+pub use table::call_table;
 pub use write::{numbers, write_job, write_sheet};
 
 /// What a run answers besides its plan.

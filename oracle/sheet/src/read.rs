@@ -176,7 +176,7 @@ fn limited(number: u64, min: u64, max: u64) -> Result<usize, Malformed> {
 #[cfg(test)]
 mod tests {
     use super::*;
-    use crate::{job_a, write_job, write_sheet};
+    use crate::{job_a, sheet_a, write_job, write_sheet};
 
     fn reads(text: &str) -> bool {
         matches!(read_job(text.as_bytes()), Ok((_, [])))
@@ -207,20 +207,7 @@ mod tests {
     #[test]
     fn reads_every_kind_of_sheet() {
         for call in Call::ALL {
-            let sheet = Sheet {
-                call,
-                given: if call.has_given_stops() {
-                    vec![0, 1]
-                } else {
-                    vec![]
-                },
-                plan: if call.has_plan() {
-                    vec![2, 0, 1]
-                } else {
-                    vec![]
-                },
-                job: job_a(),
-            };
+            let sheet = sheet_a(call);
 
             assert_eq!(
                 read_sheet(write_sheet(&sheet).as_bytes()),
@@ -230,10 +217,9 @@ mod tests {
 
         for count in 0..10 {
             let sheet = Sheet {
-                call: Call::Rebuild,
                 given: vec![7; count],
                 plan: vec![1; 12 * count],
-                job: job_a(),
+                ..sheet_a(Call::Rebuild)
             };
 
             assert_eq!(

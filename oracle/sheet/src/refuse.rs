@@ -85,32 +85,21 @@ fn are_given_stops(call: Call, given: &[u32], stop_count: usize) -> bool {
 #[cfg(test)]
 mod tests {
     use super::*;
-    use crate::UNUSED;
+    use crate::{job_a, sheet_a, UNUSED};
 
+    /// A sheet with every number at its limit.
     fn sheet(call: Call) -> Sheet {
         Sheet {
-            call,
-            given: if call.has_given_stops() {
-                vec![0, 1]
-            } else {
-                vec![]
-            },
-            plan: if call.has_plan() {
-                vec![2, 0, 1]
-            } else {
-                vec![]
-            },
             job: Job {
-                vehicles: vec![[0, 0]],
-                stops: vec![1, 2],
                 distances: vec![vec![200_000; 3]; 3],
                 linear: 1_000_000,
                 quadratic: 16,
                 missed: 10_000_000_000_000,
                 smoothing: 1_000,
                 limit: 1_000_000,
-                draws: vec![0],
+                ..job_a()
             },
+            ..sheet_a(call)
         }
     }
 

@@ -3,11 +3,11 @@
 use allocator_api2::alloc::Allocator;
 
 #[derive(Debug, Default)]
-pub struct Bump {}
+pub struct Bump;
 
 impl Bump {
     pub const fn new() -> Self {
-        Self {}
+        Self
     }
 }
 

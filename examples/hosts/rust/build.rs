@@ -5,7 +5,7 @@ use std::{env, path::PathBuf};
 fn main() {
     let folder = match env::var_os("PLANNER_LIB") {
         Some(folder) => PathBuf::from(folder),
-        None => PathBuf::from(env!("CARGO_MANIFEST_DIR")).join("../target/staticlib"),
+        None => PathBuf::from(env!("CARGO_MANIFEST_DIR")).join("../../../target/staticlib"),
     };
 
     println!("cargo:rerun-if-env-changed=PLANNER_LIB");

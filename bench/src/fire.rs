@@ -1,0 +1,148 @@
+//! The border under fire: calls through the static library with random arguments of every kind. Lists and results lie between
+//! guard numbers. The number returned is compared with the table of refusals, what an accepted call leaves with the plain
+//! rewrite, and what a refused one leaves with what it was lent.
+
+mod arguments;
+mod lent;
+mod outcome;
+mod progress;
+mod random;
+
+use self::{arguments::Arguments, lent::Lent, outcome::Outcome, progress::Progress};
+use generate::Random;
+use sheet::{call_table, Call};
+
+/// Makes so many calls, from the call of a number on, and answers tables of them, or the first that differs.
+pub fn fire(count: u64, seed: u64, first: u64) -> Result<String, String> {
+    let mut progress = Progress::new(count);
+    let mut tally = Tally::default();
+
+    for index in first..first + count {
+        let random = &mut Random::new(seed, index);
+        let call = random.choose(&Call::ALL);
+        let arguments = random::arguments(random, call);
+        let outcome = Outcome::new(&arguments);
+
+        if let Some(difference) = difference(random, &arguments, &outcome) {
+            return Err(format!(
+                "call {index} of seed {seed} differs: {difference}\n{arguments:?}\nwanted: {outcome:?}"
+            ));
+        }
+
+        tally.add(&arguments, outcome.number());
+        progress.step();
+    }
+
+    progress.end();
+
+    Ok(tally.tables())
+}
+
+/// Makes a call, and answers what it does otherwise than it must.
+fn difference(random: &mut Random, arguments: &Arguments, outcome: &Outcome) -> Option<String> {
+    let mut lent = Lent::new(random, arguments);
+    let number = lent.call(arguments);
+
+    if number != outcome.number() {
+        return Some(format!("it returned {number}"));
+    }
+
+    lent.difference(outcome).map(str::to_string)
+}
+
+/// Whether arguments are at an edge.
+type Edge = (&'static str, fn(&Arguments) -> bool);
+
+const EDGES: [Edge; 25] = [
+    ("no vehicles", |call| call.vehicles.is_empty()),
+    ("16 vehicles", |call| call.vehicles.len() == 32),
+    ("16 and a half", |call| call.vehicles.len() == 33),
+    ("17 vehicles", |call| call.vehicles.len() == 34),
+    ("no stops", |call| call.stops.is_empty()),
+    ("64 stops", |call| call.stops.len() == 64),
+    ("65 stops", |call| call.stops.len() == 65),
+    ("no locations", |call| call.locations == 0),
+    ("80 locations", |call| call.locations == 80),
+    ("81 locations", |call| call.locations == 81),
+    ("65,536 locations", |call| call.locations == 65_536),
+    ("an empty table", |call| call.distances.is_empty()),
+    ("an empty plan", |call| call.plan.is_empty()),
+    ("longest distance 200,000", |call| longest(call, 200_000)),
+    ("longest distance 200,001", |call| longest(call, 200_001)),
+    ("w 1,000,000", |call| priced(call, call.linear == 1_000_000)),
+    ("w 1,000,001", |call| priced(call, call.linear == 1_000_001)),
+    ("1,024 draws", |call| run(call, call.draws.len() == 1_024)),
+    ("1,025 draws", |call| run(call, call.draws.len() == 1_025)),
+    ("no draws", |call| run(call, call.draws.is_empty())),
+    ("limit 1,000,000", |call| run(call, call.limit == 1_000_000)),
+    ("limit 1,000,001", |call| run(call, call.limit == 1_000_001)),
+    ("equal given stops", equal_given),
+    ("no given stops", |call| {
+        call.call == Call::Rebuild && call.given.is_empty()
+    }),
+    ("6 stops and 3 vehicles", |call| {
+        let is_exhaustive = matches!(call.call, Call::Exhaustive | Call::Pruned);
+
+        is_exhaustive && call.stops.len() == 6 && call.vehicles.len() == 6
+    }),
+];
+
+fn longest(call: &Arguments, distance: u32) -> bool {
+    call.distances.iter().max() == Some(&distance)
+}
+
+fn priced(call: &Arguments, condition: bool) -> bool {
+    call.call.has_prices() && condition
+}
+
+fn run(call: &Arguments, condition: bool) -> bool {
+    call.call == Call::Solve && condition
+}
+
+fn equal_given(call: &Arguments) -> bool {
+    call.call.has_given_stops() && call.given.len() == 2 && call.given[0] == call.given[1]
+}
+
+/// How many calls there were, by call.
+#[derive(Default)]
+struct Tally {
+    /// By the number that the call returned.
+    numbers: [[usize; 7]; 14],
+    /// By edge, of accepted and of refused calls.
+    edges: [[usize; 2]; EDGES.len()],
+}
+
+impl Tally {
+    fn add(&mut self, arguments: &Arguments, number: u32) {
+        self.numbers[number as usize][arguments.call as usize] += 1;
+
+        for (counts, (_, is_at)) in self.edges.iter_mut().zip(EDGES) {
+            counts[(number != 0) as usize] += is_at(arguments) as usize;
+        }
+    }
+
+    fn tables(&self) -> String {
+        let rows = self.numbers.iter().enumerate().map(|(number, counts)| {
+            let name = match number {
+                0 => "accepted".to_string(),
+                _ => format!("refused {number}"),
+            };
+
+            (name, *counts)
+        });
+        let mut sums = [0; 7];
+
+        for (call, sum) in sums.iter_mut().enumerate() {
+            *sum = self.numbers.iter().map(|counts| counts[call]).sum();
+        }
+
+        let edges = EDGES.iter().zip(self.edges);
+        let edges = edges.map(|((name, _), [accepted, refused])| {
+            format!("| {name} | {accepted} | {refused} |\n")
+        });
+
+        call_table("calls", rows.chain([("all".to_string(), sums)]))
+            + "\n| calls with | accepted | refused |\n|---|---|---|\n"
+            + &edges.collect::<String>()
+    }
+}

@@ -1,0 +1,237 @@
+//! Random arguments of every kind. They depend on the generator alone.
+
+use super::arguments::Arguments;
+use generate::{accepted_sheet, long_job, plan, refuse, sheet, small_job, Random, Sizes};
+use sheet::{Call, Job, Sheet};
+
+/// Arguments of a call: those of a sheet, some of them changed, and then such lists as no sheet holds.
+pub fn arguments(random: &mut Random, call: Call) -> Arguments {
+    let mut sheet = match random.below(8) {
+        0 | 1 => edge_sheet(random, call),
+        2 => {
+            let job = small_job(random);
+
+            sheet(random, call, job)
+        }
+        _ => accepted_sheet(random, call),
+    };
+
+    for _ in 0..random.choose(&[0, 0, 0, 1, 2]) {
+        refuse(random, &mut sheet);
+    }
+
+    let mut arguments = Arguments::new(sheet, || random.number() as u32);
+
+    for _ in 0..random.choose(&[0, 0, 0, 1, 1, 2, 3]) {
+        change(random, &mut arguments);
+    }
+
+    ration(random, &mut arguments);
+    arguments
+}
+
+/// A sheet whose lists are as long as they may be or one longer, empty, or of the least sizes at which something happens.
+fn edge_sheet(random: &mut Random, call: Call) -> Sheet {
+    let sizes = match call {
+        Call::Exhaustive | Call::Pruned if !random.once_in(4) => Sizes::new(
+            random.choose(&[0, 1, 2, 3, 3, 4]),
+            random.choose(&[0, 1, 5, 6, 7]),
+            random.choose(&[1, 2, 9, 80, 81]),
+        ),
+        _ => Sizes::new(
+            random.choose(&[0, 1, 2, 15, 16, 16, 17]),
+            random.choose(&[0, 1, 2, 63, 64, 64, 65]),
+            random.choose(&[1, 2, 79, 80, 80, 81]),
+        ),
+    };
+    let mut job = Job {
+        smoothing: random.choose(&[1, 2, 1_000]),
+        limit: random.choose(&[1, 9, 10, 11, 20]),
+        ..long_job(random, sizes)
+    };
+
+    job.draws.truncate(random.choose(&[1, 2, 1_024]));
+
+    // The longest legs, for the highest costs.
+    if random.once_in(3) {
+        job.distances.iter_mut().for_each(|row| row.fill(200_000));
+    }
+
+    sheet(random, call, job)
+}
+
+/// Changes one argument: to a length or a number at a limit or beyond it, or to numbers without a meaning.
+fn change(random: &mut Random, arguments: &mut Arguments) {
+    let stop_count = arguments.stops.len() as u32;
+    let locations = arguments.locations;
+    let location = random.choose(&[0, locations.wrapping_sub(1), locations, u32::MAX]);
+    let stop = random.choose(&[0, stop_count.wrapping_sub(1), stop_count, u32::MAX]);
+    let noise = random.number() as u32;
+
+    match random.below(22) {
+        0 => {
+            resize(random, &mut arguments.vehicles, &[0, 1, 2, 31, 32, 33, 34]);
+            fit_plan(random, arguments);
+        }
+        1 => {
+            resize(random, &mut arguments.stops, &[0, 1, 63, 64, 65, 128]);
+            fit_plan(random, arguments);
+        }
+        2 => change_table(random, arguments),
+        3 => resize(
+            random,
+            &mut arguments.distances,
+            &[0, 6_399, 6_400, 6_401, 6_561],
+        ),
+        4 => resize(random, &mut arguments.plan, &[0, 80, 81, 96]),
+        5 => resize(
+            random,
+            &mut arguments.draws,
+            &[0, 1, 1_023, 1_024, 1_025, 2_048],
+        ),
+        6 => set(random, &mut arguments.vehicles, location),
+        7 => set(random, &mut arguments.stops, location),
+        8 => {
+            let distance = random.choose(&[0, 199_999, 200_000, 200_001, u32::MAX]);
+
+            set(random, &mut arguments.distances, distance);
+        }
+        9 => arguments.linear = random.choose(&[0, 1_000_000, 1_000_001, u32::MAX]),
+        10 => arguments.quadratic = random.choose(&[0, 16, 17, u32::MAX]),
+        11 => {
+            arguments.missed = random.choose(&[0, 10_000_000_000_000, 10_000_000_000_001, u64::MAX])
+        }
+        12 => arguments.smoothing = random.choose(&[0, 1, 1_000, 1_001, u32::MAX]),
+        13 => arguments.limit = random.choose(&[0, 1, 1_000_000, 1_000_001, u32::MAX]),
+        14 => set(random, &mut arguments.plan, stop),
+        15 => set(random, &mut arguments.plan, noise),
+        16 => set(random, &mut arguments.given, stop),
+        17 => {
+            let same = arguments.given.first().copied().unwrap_or(0);
+
+            arguments.given.fill(same);
+        }
+        18 => {
+            if arguments.call == Call::Rebuild {
+                resize(random, &mut arguments.given, &[0, 1, 2, 3, 8, 64, 65]);
+            }
+        }
+        19 => fill(random, arguments),
+        20 => std::mem::swap(&mut arguments.vehicles, &mut arguments.stops),
+        _ => empty(random, arguments),
+    }
+}
+
+/// Gives a list another length: one of these, one more or one less. New numbers are a copy of the last.
+fn resize(random: &mut Random, list: &mut Vec<u32>, lengths: &[usize]) {
+    let length = match random.below(4) {
+        0 => list.len() + 1,
+        1 => list.len().saturating_sub(1),
+        _ => random.choose(lengths),
+    };
+    let last = list.last().copied().unwrap_or(0);
+
+    list.resize(length, last);
+}
+
+/// Mostly gives the plan the length that vehicles and stops ask for.
+fn fit_plan(random: &mut Random, arguments: &mut Arguments) {
+    if !random.once_in(4) {
+        arguments.plan = plan(random, arguments.vehicles.len() / 2, arguments.stops.len());
+    }
+}
+
+/// Gives another number of locations, in half of the cases with a table that fits. The square of 65,536 is 0 in 32 bits.
+fn change_table(random: &mut Random, arguments: &mut Arguments) {
+    let locations = arguments.locations;
+
+    arguments.locations = random.choose(&[
+        0,
+        1,
+        locations.wrapping_sub(1),
+        locations.wrapping_add(1),
+        79,
+        80,
+        81,
+        65_536,
+        u32::MAX,
+    ]);
+
+    if random.once_in(2) {
+        let count = arguments.locations.wrapping_mul(arguments.locations) as usize;
+        let distance = random.choose(&[0, 1, 200_000]);
+
+        arguments.distances.resize(count.min(7_000), distance);
+    }
+}
+
+/// Sets one number of a list, often the first or the last.
+fn set(random: &mut Random, list: &mut [u32], number: u32) {
+    if let Some(last) = list.len().checked_sub(1) {
+        let place = random.choose(&[0, last, random.clone().below(last + 1)]);
+
+        list[place] = number;
+    }
+}
+
+/// Fills a list with numbers without a meaning.
+fn fill(random: &mut Random, arguments: &mut Arguments) {
+    let list = match random.below(6) {
+        0 => &mut arguments.vehicles,
+        1 => &mut arguments.stops,
+        2 => &mut arguments.distances,
+        3 => &mut arguments.draws,
+        4 => &mut arguments.given,
+        _ => &mut arguments.plan,
+    };
+    let mask = random.choose(&[u32::MAX, 127, 3]);
+
+    list.fill_with(|| random.number() as u32 & mask);
+}
+
+/// Empties lists, all of them in half of the cases.
+fn empty(random: &mut Random, arguments: &mut Arguments) {
+    let is_all = random.once_in(2);
+    let mut chosen = || is_all || random.once_in(3);
+
+    if chosen() {
+        arguments.vehicles.clear();
+    }
+
+    if chosen() {
+        arguments.stops.clear();
+    }
+
+    if chosen() {
+        arguments.distances.clear();
+        arguments.locations = 0;
+    }
+
+    if chosen() {
+        arguments.plan.clear();
+    }
+
+    // The pair of a two-opt is no list.
+    if chosen() && arguments.call == Call::Rebuild {
+        arguments.given.clear();
+    }
+
+    if chosen() && !is_all {
+        arguments.draws.clear();
+    }
+}
+
+/// Cuts runs short, so that a million calls take minutes. A run of few stops that settles by itself may have any limit.
+fn ration(random: &mut Random, arguments: &mut Arguments) {
+    let longest = match arguments.stops.len() {
+        0 | 1 => return,
+        2..=5 if arguments.smoothing <= 20 || random.once_in(50) => return,
+        2..=5 => 100,
+        6..=20 => 50,
+        _ => 20,
+    };
+
+    if (1..=1_000_000).contains(&arguments.limit) && !arguments.vehicles.is_empty() {
+        arguments.limit = arguments.limit.min(longest);
+    }
+}

@@ -1,0 +1,59 @@
+"""A host in Python: Job A, planned by each call, with the same lines as the hosts in C and Rust."""
+
+import planner
+from planner import Refused
+
+JOB = planner.Job(
+    vehicles=[(0, 0)],
+    stops=[1, 2],
+    distances=[[0, 2, 3], [2, 0, 9], [9, 1, 0]],
+    linear=1,
+    quadratic=0,
+    missed=100,
+)
+
+
+def show(name, call, plan):
+    """Prints a line: the call's name, its values or the number of its refusal, and the plan. Answers the plan."""
+    try:
+        words, plan = call()
+    except Refused as refused:
+        words = f" refused {refused.number}"
+    print(f"{name}{words} plan", *plan)
+    return plan
+
+
+def show_cost(name, call, plan):
+    def answer():
+        weighed = call()
+        return f" cost {weighed.cost}", weighed.plan
+
+    return show(name, answer, plan)
+
+
+def show_run(limit, plan):
+    def answer():
+        run = planner.solve(JOB, smoothing=1, limit=limit, draws=[0])
+        totals = f" start {run.start} end {run.end} rounds {run.rounds} improving {run.improving}"
+        return f"{totals} settled {int(run.settled)}", run.plan
+
+    return show("solve", answer, plan)
+
+
+def show_start_plan(plan):
+    return show("start_plan", lambda: ("", planner.start_plan(JOB)), plan)
+
+
+plan = [5, 5, 5]
+plan = show_run(0, plan)  # no rounds allowed: refused
+plan = show_run(50, plan)
+start = show_start_plan(plan)
+show("weigh", lambda: (f" cost {planner.weigh(JOB, start)}", start), start)
+show_cost("two_opt", lambda: planner.two_opt(JOB, start, 0, 0), start)  # one stop twice: refused
+plan = show_cost("two_opt", lambda: planner.two_opt(JOB, start, 0, 1), start)
+start = show_start_plan(plan)
+plan = show_cost("rebuild", lambda: planner.rebuild(JOB, start, [0]), start)
+start = show_start_plan(plan)
+plan = show_cost("rebuild", lambda: planner.rebuild(JOB, start, [0, 1]), start)
+plan = show_cost("exhaustive", lambda: planner.exhaustive(JOB), plan)
+show_cost("pruned", lambda: planner.pruned(JOB), plan)

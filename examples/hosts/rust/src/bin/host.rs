@@ -1,0 +1,64 @@
+//! A host in Rust: Job A, planned by each call, with the same lines as the hosts in C and Python.
+
+use planner::{Job, Refusal, Running};
+
+const JOB: Job = Job {
+    vehicles: &[0, 0],
+    stops: &[1, 2],
+    locations: 3,
+    distances: &[0, 2, 3, 2, 0, 9, 9, 1, 0],
+    linear: 1,
+    quadratic: 0,
+    missed: 100,
+};
+
+/// A line: the call's name, its values or the number of its refusal, and the plan.
+fn show(name: &str, answer: Result<String, Refusal>, plan: &[u32]) {
+    let answer = answer.unwrap_or_else(|refusal| format!(" refused {}", refusal.0));
+    let plan = plan.iter().map(u32::to_string).collect::<Vec<_>>();
+
+    println!("{name}{answer} plan {}", plan.join(" "));
+}
+
+fn show_cost(name: &str, answer: Result<f64, Refusal>, plan: &[u32]) {
+    show(name, answer.map(|cost| format!(" cost {cost}")), plan);
+}
+
+fn show_start_plan(plan: &mut [u32]) {
+    let answer = planner::start_plan(&JOB, plan);
+
+    show("start_plan", answer.map(|()| String::new()), plan);
+}
+
+fn show_run(limit: u32, plan: &mut [u32]) {
+    let running = Running {
+        smoothing: 1,
+        limit,
+        draws: &[0],
+    };
+    let answer = planner::solve(&JOB, &running, plan).map(|totals| {
+        format!(
+            " start {} end {} rounds {} improving {} settled {}",
+            totals.start, totals.end, totals.rounds, totals.improving, totals.settled as u32
+        )
+    });
+
+    show("solve", answer, plan);
+}
+
+fn main() {
+    let plan = &mut [5, 5, 5];
+
+    show_run(0, plan); // no rounds allowed: refused, with the plan as it was
+    show_run(50, plan);
+    show_start_plan(plan);
+    show_cost("weigh", planner::weigh(&JOB, plan), plan);
+    show_cost("two_opt", planner::two_opt(&JOB, plan, [0, 0]), plan); // one stop twice: refused
+    show_cost("two_opt", planner::two_opt(&JOB, plan, [0, 1]), plan);
+    show_start_plan(plan);
+    show_cost("rebuild", planner::rebuild(&JOB, plan, &[0]), plan);
+    show_start_plan(plan);
+    show_cost("rebuild", planner::rebuild(&JOB, plan, &[0, 1]), plan);
+    show_cost("exhaustive", planner::exhaustive(&JOB, plan), plan);
+    show_cost("pruned", planner::pruned(&JOB, plan), plan);
+}

@@ -1,0 +1,193 @@
+//! The calls of include/planner.h for hosts in Rust.
+//!
+//! Each call tests its arguments itself, and either does what its line says or is refused: then the lent plan is as it was.
+//! None can fail otherwise, and none takes memory but the stack. The functions here are safe, since what a call asks of its
+//! host (addresses that hold, lengths that fit, no overlap of what is written) is what Rust's references give.
+//!
+//! A plan is a number for each vehicle and each stop: the lengths of the routes, then the stops of route 0, route 1 and so on,
+//! then [`UNUSED`] in each place that is left.
+//!
+//! ```
+//! use planner::{Job, Refusal, Running};
+//!
+//! let job = Job {
+//!     vehicles: &[0, 0],
+//!     stops: &[1, 2],
+//!     locations: 3,
+//!     distances: &[0, 2, 3, 2, 0, 9, 9, 1, 0],
+//!     linear: 1,
+//!     quadratic: 0,
+//!     missed: 100,
+//! };
+//! let running = Running { smoothing: 1, limit: 50, draws: &[0] };
+//! let mut plan = [planner::UNUSED; 3];
+//! let totals = planner::solve(&job, &running, &mut plan)?;
+//!
+//! assert_eq!((totals.end, plan), (6.0, [2, 1, 0]));
+//!
+//! let refusal = planner::two_opt(&job, &mut plan, [0, 0]).unwrap_err();
+//!
+//! assert_eq!(refusal, Refusal(12));
+//! eprintln!("{refusal}"); // refused, 12: a given stop does not exist, ..
+//! # Ok::<(), Refusal>(())
+//! ```
+
+pub mod raw;
+mod refusal;
+
+use refusal::answer;
+pub use refusal::Refusal;
+
+/// What stands in each place of a plan that no stop takes.
+pub const UNUSED: u32 = u32::MAX;
+
+/// What is to be planned.
+#[derive(Clone, Copy, Debug)]
+pub struct Job<'a> {
+    /// The location numbers of each vehicle's start and end, two for each vehicle.
+    pub vehicles: &'a [u32],
+    /// The location number of each stop.
+    pub stops: &'a [u32],
+    /// How many locations there are.
+    pub locations: u32,
+    /// Whole metres from each location to each, row after row: row = from, column = to.
+    pub distances: &'a [u32],
+    /// The price of a route's metre.
+    pub linear: u32,
+    /// The price of a route's squared metre.
+    pub quadratic: u32,
+    /// The price of a stop that is on no route.
+    pub missed: u64,
+}
+
+/// What a run needs besides its job.
+#[derive(Clone, Copy, Debug)]
+pub struct Running<'a> {
+    /// Over how many rounds the averages go that say whether a run has settled.
+    pub smoothing: u32,
+    /// How many rounds there are at most.
+    pub limit: u32,
+    /// The numbers that stand for chance, read in order and from the front again after the last.
+    pub draws: &'a [u32],
+}
+
+/// What a run answers besides its plan.
+#[derive(Clone, Copy, Debug, Default, PartialEq)]
+pub struct Totals {
+    /// The cost of the start plan. A cost is a whole number, exact in f64.
+    pub start: f64,
+    /// The cost of the plan that is left.
+    pub end: f64,
+    /// The rounds.
+    pub rounds: u32,
+    /// Those among the rounds that made the plan cheaper.
+    pub improving: u32,
+    /// Whether the run settled. If not, the limit cut it.
+    pub settled: bool,
+}
+
+/// The cost of a plan.
+#[rustfmt::skip]
+pub fn weigh(job: &Job, plan: &[u32]) -> Result<f64, Refusal> {
+    let mut cost = 0.0;
+    let number = unsafe {
+        raw::planner_weigh(
+            job.vehicles.as_ptr(), job.vehicles.len(), job.stops.as_ptr(), job.stops.len(), job.locations,
+            job.distances.as_ptr(), job.distances.len(), job.linear, job.quadratic, job.missed,
+            plan.as_ptr(), plan.len(), &mut cost,
+        )
+    };
+
+    answer(number, cost)
+}
+
+/// Writes the start plan: vehicles in turn, each to the nearest stop that is left. What the plan held is not read.
+#[rustfmt::skip]
+pub fn start_plan(job: &Job, plan: &mut [u32]) -> Result<(), Refusal> {
+    let number = unsafe {
+        raw::planner_start_plan(
+            job.vehicles.as_ptr(), job.vehicles.len(), job.stops.as_ptr(), job.stops.len(), job.locations,
+            job.distances.as_ptr(), job.distances.len(), plan.as_mut_ptr(), plan.len(),
+        )
+    };
+
+    answer(number, ())
+}
+
+/// Improves a plan by the two-opt move of two stops, and answers its cost.
+#[rustfmt::skip]
+pub fn two_opt(job: &Job, plan: &mut [u32], [first, second]: [u32; 2]) -> Result<f64, Refusal> {
+    let mut cost = 0.0;
+    let number = unsafe {
+        raw::planner_two_opt(
+            job.vehicles.as_ptr(), job.vehicles.len(), job.stops.as_ptr(), job.stops.len(), job.locations,
+            job.distances.as_ptr(), job.distances.len(), job.linear, job.quadratic, job.missed,
+            plan.as_mut_ptr(), plan.len(), first, second, &mut cost,
+        )
+    };
+
+    answer(number, cost)
+}
+
+/// Rebuilds a plan round one or two stops, and answers its cost.
+#[rustfmt::skip]
+pub fn rebuild(job: &Job, plan: &mut [u32], given: &[u32]) -> Result<f64, Refusal> {
+    let mut cost = 0.0;
+    let number = unsafe {
+        raw::planner_rebuild(
+            job.vehicles.as_ptr(), job.vehicles.len(), job.stops.as_ptr(), job.stops.len(), job.locations,
+            job.distances.as_ptr(), job.distances.len(), job.linear, job.quadratic, job.missed,
+            plan.as_mut_ptr(), plan.len(), given.as_ptr(), given.len(), &mut cost,
+        )
+    };
+
+    answer(number, cost)
+}
+
+/// Writes the best of all plans, for at most 6 stops and 3 vehicles, and answers its cost. What the plan held is not read.
+#[rustfmt::skip]
+pub fn exhaustive(job: &Job, plan: &mut [u32]) -> Result<f64, Refusal> {
+    let mut cost = 0.0;
+    let number = unsafe {
+        raw::planner_exhaustive(
+            job.vehicles.as_ptr(), job.vehicles.len(), job.stops.as_ptr(), job.stops.len(), job.locations,
+            job.distances.as_ptr(), job.distances.len(), job.linear, job.quadratic, job.missed,
+            plan.as_mut_ptr(), plan.len(), &mut cost,
+        )
+    };
+
+    answer(number, cost)
+}
+
+/// Writes the best of the plans that the pruned search reaches, for at most 6 stops and 3 vehicles, and answers its cost. What
+/// the plan held is not read.
+#[rustfmt::skip]
+pub fn pruned(job: &Job, plan: &mut [u32]) -> Result<f64, Refusal> {
+    let mut cost = 0.0;
+    let number = unsafe {
+        raw::planner_pruned(
+            job.vehicles.as_ptr(), job.vehicles.len(), job.stops.as_ptr(), job.stops.len(), job.locations,
+            job.distances.as_ptr(), job.distances.len(), job.linear, job.quadratic, job.missed,
+            plan.as_mut_ptr(), plan.len(), &mut cost,
+        )
+    };
+
+    answer(number, cost)
+}
+
+/// Runs the planner: the start plan, then rounds until the run settles or its limit cuts it. What the plan held is not read.
+#[rustfmt::skip]
+pub fn solve(job: &Job, running: &Running, plan: &mut [u32]) -> Result<Totals, Refusal> {
+    let mut totals = Totals::default();
+    let mut settled = 0;
+    let number = unsafe {
+        raw::planner_solve(
+            job.vehicles.as_ptr(), job.vehicles.len(), job.stops.as_ptr(), job.stops.len(), job.locations,
+            job.distances.as_ptr(), job.distances.len(), job.linear, job.quadratic, job.missed,
+            running.smoothing, running.limit, running.draws.as_ptr(), running.draws.len(), plan.as_mut_ptr(), plan.len(),
+            &mut totals.start, &mut totals.end, &mut totals.rounds, &mut totals.improving, &mut settled,
+        )
+    };
+
+    answer(number, Totals { settled: settled != 0, ..totals })
+}

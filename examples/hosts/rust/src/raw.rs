@@ -1,0 +1,44 @@
+//! The functions of the static library as include/planner.h declares them: a list is its address and its length, a result the
+//! address of a number. `tools/declarations` holds this text to the header.
+//!
+//! What a caller owes is what the header says: no address is null, each is aligned, as many numbers as a length says lie behind
+//! its address, and what is written overlaps nothing else that is passed.
+
+#[rustfmt::skip]
+extern "C" {
+    pub fn planner_weigh(
+        vehicles: *const u32, vehicles_len: usize, stops: *const u32, stops_len: usize, locations: u32,
+        distances: *const u32, distances_len: usize, linear: u32, quadratic: u32, missed: u64,
+        plan: *const u32, plan_len: usize, cost: *mut f64,
+    ) -> u32;
+    pub fn planner_start_plan(
+        vehicles: *const u32, vehicles_len: usize, stops: *const u32, stops_len: usize, locations: u32,
+        distances: *const u32, distances_len: usize, plan: *mut u32, plan_len: usize,
+    ) -> u32;
+    pub fn planner_two_opt(
+        vehicles: *const u32, vehicles_len: usize, stops: *const u32, stops_len: usize, locations: u32,
+        distances: *const u32, distances_len: usize, linear: u32, quadratic: u32, missed: u64,
+        plan: *mut u32, plan_len: usize, first: u32, second: u32, cost: *mut f64,
+    ) -> u32;
+    pub fn planner_rebuild(
+        vehicles: *const u32, vehicles_len: usize, stops: *const u32, stops_len: usize, locations: u32,
+        distances: *const u32, distances_len: usize, linear: u32, quadratic: u32, missed: u64,
+        plan: *mut u32, plan_len: usize, given: *const u32, given_len: usize, cost: *mut f64,
+    ) -> u32;
+    pub fn planner_exhaustive(
+        vehicles: *const u32, vehicles_len: usize, stops: *const u32, stops_len: usize, locations: u32,
+        distances: *const u32, distances_len: usize, linear: u32, quadratic: u32, missed: u64,
+        plan: *mut u32, plan_len: usize, cost: *mut f64,
+    ) -> u32;
+    pub fn planner_pruned(
+        vehicles: *const u32, vehicles_len: usize, stops: *const u32, stops_len: usize, locations: u32,
+        distances: *const u32, distances_len: usize, linear: u32, quadratic: u32, missed: u64,
+        plan: *mut u32, plan_len: usize, cost: *mut f64,
+    ) -> u32;
+    pub fn planner_solve(
+        vehicles: *const u32, vehicles_len: usize, stops: *const u32, stops_len: usize, locations: u32,
+        distances: *const u32, distances_len: usize, linear: u32, quadratic: u32, missed: u64,
+        smoothing: u32, limit: u32, draws: *const u32, draws_len: usize, plan: *mut u32, plan_len: usize,
+        start: *mut f64, end: *mut f64, rounds: *mut u32, improving: *mut u32, settled: *mut u32,
+    ) -> u32;
+}

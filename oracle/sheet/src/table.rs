@@ -1,0 +1,22 @@
+/// A table of counts by call: the heading of its first column, and a name and the counts for each row. No count is no text.
+pub fn call_table(heading: &str, rows: impl IntoIterator<Item = (String, [usize; 7])>) -> String {
+    let header = format!(
+        "| {heading} | weigh | start | two-opt | rebuild | exhaustive | pruned | solve | sum |\n{}|\n",
+        "|---".repeat(9)
+    );
+
+    rows.into_iter()
+        .fold(header, |text, (name, counts)| text + &row(&name, &counts))
+}
+
+fn row(name: &str, counts: &[usize; 7]) -> String {
+    let cells = counts
+        .iter()
+        .map(|&count| match count {
+            0 => " |".to_string(),
+            _ => format!(" {count} |"),
+        })
+        .collect::<String>();
+
+    format!("| {name} |{cells} {} |\n", counts.iter().sum::<usize>())
+}
