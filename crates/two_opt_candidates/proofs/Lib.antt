@@ -1,5 +1,4 @@
 pub mod Repeats
 pub mod Pairs
 pub mod Weighing
-pub mod Rows
 pub mod Sides

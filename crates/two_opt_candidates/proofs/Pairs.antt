@@ -1,5 +1,5 @@
 -- The move is the plan of the numbered candidate whose two routes are cheapest over the leg table. Assumes nothing.
-use Prim.Native.Nat.{ℕ, zero, suc, _+_, _/_, _%_, _<_, _≤_}
+use Prim.Native.Nat.{ℕ, _+_, _/_, _%_, _<_, _≤_}
 use native.Mathlib.Omega.{arith}
 use mathlib.Core.Path.{_≡_, refl, sym, ap, ap₂, _∙_}
 use mathlib.Core.Logic.{_≢_}
@@ -28,13 +28,6 @@ use Rattle.two_opt_candidates.proofs.Repeats.{inter-numbered}
 pub least-append : (f : ℕ → ℕ) (cs ds : List ℕ) (best : ℕ × ℕ) → least f (cs ++ ds) best ≡ least f ds (least f cs best)
 least-append f [] ds best = refl
 least-append f (c ∷ cs) ds best = least-append f cs ds (cond (ltb (f c) (best .1)) (c, f c) best)
-
--- only the prices of the numbers that are tried count
-pub least-alike : (f g : ℕ → ℕ) (a k : ℕ) (best : ℕ × ℕ) → ((c : ℕ) → a ≤ c → c < a + k → f c ≡ g c) → least f (upFrom a k) best ≡ least g (upFrom a k) best
-least-alike f g a zero best e = refl
-least-alike f g a (suc k) best e =
-    least-alike f g (suc a) k (cond (ltb (f a) (best .1)) (a, f a) best) (λ c h l. e c (omega arith) (omega arith))
-    ∙ ap (λ (x : ℕ). least g (upFrom (suc a) k) (cond (ltb x (best .1)) (a, x) best)) (e a (omega arith) (omega arith))
 
 -- Where prices differ as costs do, the plan of the first of the cheapest numbers is the first of the cheapest plans.
 module _ (J : Job) (plan : ℕ → Plan) (f : ℕ → ℕ) (K L : ℕ) (same : (c : ℕ) → cost J (plan c) + K ≡ L + f c) where

@@ -1,156 +1,232 @@
--- The four ways to reverse two routes: what is asked of their rows, and what the four blocks of sixteen candidates choose together. Assumes nothing.
-use Prim.Native.Nat.{ℕ, _+_, _-_, _/_, _%_, _<_, _≤_}
+-- What is weighed of two cut routes is the first of the cheapest of all 64 candidates. Assumes nothing.
+use Prim.Native.Nat.{ℕ, zero, suc, _+_, _*_, _/_, _%_, _<_, _≤_}
 use native.Mathlib.Omega.{arith}
-use mathlib.Core.Path.{_≡_, refl, sym, ap, _∙_}
-use mathlib.Core.Bool.{Bool, true, false}
-use mathlib.Core.List.{List, reverse}
-use lib.Dec.{eqb}
-use lib.Ieee.{Float}
-use lib.ListN.{length, length-reverse}
-use borrow.Author.Tests.{eq-eqb, ne-eqb}
+use native.Mathlib.Nat.{add-zero, add-suc}
+use mathlib.Core.Path.{_≡_, refl, sym, ap, ap₂, _∙_}
+use mathlib.Core.Bool.{Bool, true, false, cond}
+use mathlib.Core.List.{List, [], _∷_, reverse}
+use lib.Dec.{eqb, ltb}
+use lib.ListN.{length, take, drop, take-append-drop, length-take, length-drop}
+use borrow.Author.Tests.{ltb-true, ltb-false, le-ltb}
 use Rattle.model.specs.declared.Prices.{Prices}
-use Rattle.model.specs.Whole.{amount}
 use Rattle.model.specs.Lists.{upFrom, member, position, Once}
 use Rattle.model.specs.Plan.{Route}
-use Rattle.model.specs.TwoOpt.{turned}
+use Rattle.model.specs.Cost.{price}
+use Rattle.model.specs.TwoOpt.{turned, exchanged}
 use Rattle.model.proofs.Lists.{position-lt}
 use Rattle.model.proofs.Counts.{position-reverse}
 use Rattle.distance.specs.Ways.{Drivable}
-use Rattle.two_opt_sums.specs.Rows.{Summed}
-use Rattle.two_opt_candidates.specs.Pairs.{rowsPrice, priceAt, least, leastPair}
-use Rattle.two_opt_candidates.specs.Weighed.{Weighs, Rows, Routes, Turned}
-use Rattle.two_opt_candidates.proofs.Rows.{drivable-reverse}
-use Rattle.two_opt_candidates.proofs.Pairs.{least-append, least-alike}
-use Rattle.two_opt_candidates.proofs.Weighing.{weighs-amount}
+use Rattle.two_opt_cuts.specs.declared.Cut.{Cut}
+use Rattle.two_opt_cuts.specs.declared.Cuts.{Cuts}
+use Rattle.two_opt_cuts.specs.Ends.{CutAt, CutBy, reversedCuts}
+use Rattle.two_opt_cuts.proofs.Laws.{cut-reversed, head-short, tail-short, joined-way}
+use Rattle.two_opt_candidates.specs.Pairs.{pairPrice, wayPrice, priceAt, least, leastPair}
+use Rattle.two_opt_candidates.specs.Weighed.{tried, cutsPrice, afterTurns, afterAll, Sized, TwoRoutes, Routes}
+use Rattle.two_opt_candidates.proofs.Pairs.{least-append}
 
--- a route as it is turned, with its sums and the place of a stop in it
-record Side (legs : List ℕ) (turn : Bool) (r row : Route) (sums : List ℕ) (s i : ℕ) : Type 0 where
-  row-is : row ≡ turned turn r
-  drivable : Drivable row
-  summed : Summed legs row sums
-  place : i ≡ position s row
-  inside : i < length row
-  size : length row ≡ length r
+-- ---- ten of sixteen
 
-module _ (legs : List ℕ) (r : Route) (s : ℕ) (D : Drivable r) (o : Once r) (m : member s r ≡ true) where
-  plain : (sums : List ℕ) (i : ℕ) → Summed legs r sums → i ≡ position s r → Side legs false r r sums s i
-  plain sums i S e =
-      record { row-is = refl; drivable = D; summed = S; place = e; inside = rw e (position-lt s r m); size = refl }
-
-  back : (row : Route) (sums : List ℕ) (i : ℕ) → row ≡ reverse r → Summed legs row sums → i ≡ position s r → Side legs true r row sums s (length row - 1 - i)
-  back row sums i eb S e =
-      let l : length row ≡ length r = ap length eb ∙ length-reverse r in
-      let h : position s r < length r = position-lt s r m in
-      record {
-        row-is = eb;
-        drivable = rw eb (drivable-reverse r D);
-        summed = S;
-        place = omega (arith, position-reverse r o s m, ap (position s) eb);
-        inside = omega arith;
-        size = l;
-      }
-
--- two sides, for each of the choices of reversals
-module _ (legs : List ℕ) (p : Prices) (a : ℕ) (ra : Route) (s b : ℕ) (rb : Route) (t : ℕ) (R : Routes legs p a ra s b rb t)
-    {ta tb : Bool} {xa xb : Route} {sa sb : List ℕ} {i j : ℕ} (A : Side legs ta ra xa sa s i) (B : Side legs tb rb xb sb t j) where
-  sides-rows : Rows legs p a xa sa i b xb sb j
-  sides-rows =
-      record {
-        table = R .table;
-        prices = R .prices;
-        first = R .first;
-        firstRow = A .drivable;
-        firstSums = A .summed;
-        firstAt = A .inside;
-        second = R .second;
-        secondRow = B .drivable;
-        secondSums = B .summed;
-        secondAt = B .inside;
-        few = omega (arith, A .size, B .size, R .few);
-      }
-
-  sides-price : (code : ℕ) → eqb (code / 32 % 2) 1 ≡ ta → eqb (code / 16 % 2) 1 ≡ tb
-      → rowsPrice legs p a xa i b xb j code ≡ priceAt legs p a ra s b rb t code
-  sides-price code ea eb = rw (ea, eb, A .place, B .place, A .row-is, B .row-is)
-
-  -- sixteen numbers that say these reversals
-  sides-block : (first : ℕ) (best g h : ℕ × ℕ) → ((c : ℕ) → first ≤ c → c < first + 16 → (eqb (c / 32 % 2) 1 ≡ ta) × (eqb (c / 16 % 2) 1 ≡ tb))
-      → g ≡ best → h ≡ least (rowsPrice legs p a xa i b xb j) (upFrom first 16) g → h ≡ least (priceAt legs p a ra s b rb t) (upFrom first 16) best
-  sides-block first best g h d eg eh =
-      eh ∙ ap (least (rowsPrice legs p a xa i b xb j) (upFrom first 16)) eg
-      ∙ least-alike (rowsPrice legs p a xa i b xb j) (priceAt legs p a ra s b rb t) first 16 best
-      (λ c k l. sides-price c (d c k l .0) (d c k l .1))
-
--- all four
-module _ {legs : List ℕ} {p : Prices} {a : ℕ} {ra : Route} {sa : List ℕ} {xa : Route} {ta : List ℕ} {s b : ℕ} {rb : Route} {sb : List ℕ} {xb : Route} {tb : List ℕ} {t : ℕ}
-    (T : Turned legs p a ra sa xa ta s b rb sb xb tb t) {i j : ℕ} (ei : i ≡ position s ra) (ej : j ≡ position t rb) where
-  first-plain : Side legs false ra ra sa s i
-  first-plain = let R = T .routes in plain legs ra s (R .firstRow) (R .firstOnce) (R .firstStop) sa i (T .firstSums) ei
-
-  first-back : Side legs true ra xa ta s (length xa - 1 - i)
-  first-back = let R = T .routes in back legs ra s (R .firstRow) (R .firstOnce) (R .firstStop) xa ta i (T .firstTurned) (T .firstTurnedSums) ei
-
-  second-plain : Side legs false rb rb sb t j
-  second-plain = let R = T .routes in plain legs rb t (R .secondRow) (R .secondOnce) (R .secondStop) sb j (T .secondSums) ej
-
-  second-back : Side legs true rb xb tb t (length xb - 1 - j)
-  second-back = let R = T .routes in back legs rb t (R .secondRow) (R .secondOnce) (R .secondStop) xb tb j (T .secondTurned) (T .secondTurnedSums) ej
-
-  -- the reversed places are there
-  pub first-room : i < length xa
-  first-room = omega (arith, first-plain .inside, first-back .size)
-
-  pub second-room : j < length xb
-  second-room = omega (arith, second-plain .inside, second-back .size)
-
-  pub rows-none : Rows legs p a ra sa i b rb sb j
-  rows-none = sides-rows legs p a ra s b rb t (T .routes) first-plain second-plain
-
-  pub rows-second : Rows legs p a ra sa i b xb tb (length xb - 1 - j)
-  rows-second = sides-rows legs p a ra s b rb t (T .routes) first-plain second-back
-
-  pub rows-first : Rows legs p a xa ta (length xa - 1 - i) b rb sb j
-  rows-first = sides-rows legs p a ra s b rb t (T .routes) first-back second-plain
-
-  pub rows-both : Rows legs p a xa ta (length xa - 1 - i) b xb tb (length xb - 1 - j)
-  rows-both = sides-rows legs p a ra s b rb t (T .routes) first-back second-back
-
-  -- the blocks, each on what the one before it chose
-  pub four-blocks : (c : Float) (none second first both : ℕ × ℕ) → Weighs (rowsPrice legs p a ra i b rb j 0) c
-      → none ≡ least (rowsPrice legs p a ra i b rb j) (upFrom 0 16) (0, amount c)
-      → second ≡ least (rowsPrice legs p a ra i b xb (length xb - 1 - j)) (upFrom 16 16) none
-      → first ≡ least (rowsPrice legs p a xa (length xa - 1 - i) b rb j) (upFrom 32 16) second
-      → both ≡ least (rowsPrice legs p a xa (length xa - 1 - i) b xb (length xb - 1 - j)) (upFrom 48 16) first
-      → both ≡ leastPair legs p a ra s b rb t
-  unfolding leastPair
-  four-blocks c none second first both w e₀ e₁ e₂ e₃ =
-      let f : ℕ → ℕ = priceAt legs p a ra s b rb t in
-      let R = T .routes in
-      let old : ℕ × ℕ = (0, f 0) in
-      let b₀ : ℕ × ℕ = least f (upFrom 0 16) old in
-      let b₁ : ℕ × ℕ = least f (upFrom 16 16) b₀ in
-      let b₂ : ℕ × ℕ = least f (upFrom 32 16) b₁ in
-      let z : amount c ≡ f 0 = weighs-amount w ∙ sides-price legs p a ra s b rb t R first-plain second-plain 0 refl refl in
-      let d₀ : none ≡ b₀ =
-      sides-block legs p a ra s b rb t R first-plain second-plain 0 old (0, amount c) none (λ k h l. (no (k / 32 % 2) (omega arith), no (k / 16 % 2) (omega arith))) (rw z) e₀
-      in
-      let d₁ : second ≡ b₁ =
-      sides-block legs p a ra s b rb t R first-plain second-back 16 b₀ none second (λ k h l. (no (k / 32 % 2) (omega arith), yes! (k / 16 % 2) (omega arith))) d₀ e₁
-      in
-      let d₂ : first ≡ b₂ =
-      sides-block legs p a ra s b rb t R first-back second-plain 32 b₁ second first (λ k h l. (yes! (k / 32 % 2) (omega arith), no (k / 16 % 2) (omega arith))) d₁ e₂
-      in
-      sides-block legs p a ra s b rb t R first-back second-back 48 b₂ first both (λ k h l. (yes! (k / 32 % 2) (omega arith), yes! (k / 16 % 2) (omega arith))) d₂ e₃
-      ∙ sym (in-blocks f old)
+module _ (code x : ℕ) (best : ℕ × ℕ) where
+  tried-le : (tried code x best .1 ≤ best .1) × (tried code x best .1 ≤ x)
+  unfolding tried
+  tried-le = go (ltb x (best .1)) refl
     where
-      no : (k : ℕ) → k ≡ 0 → eqb k 1 ≡ false
-      no k e = ne-eqb k 1 (λ q. omega arith)
+      go : (t : Bool) → ltb x (best .1) ≡ t → (cond t (code, x) best .1 ≤ best .1) × (cond t (code, x) best .1 ≤ x)
+      go true e = omega (arith, ltb-true x (best .1) e)
+      go false e = omega (arith, ltb-false x (best .1) e)
 
-      yes! : (k : ℕ) → k ≡ 1 → eqb k 1 ≡ true
-      yes! k e = eq-eqb k 1 e
+  -- a later candidate of equal price never replaces the best so far
+  passed : best .1 ≤ x → tried code x best ≡ best
+  unfolding tried
+  passed h = rw (le-ltb x (best .1) h)
 
-      in-blocks : (f : ℕ → ℕ) (best : ℕ × ℕ) → least f (upFrom 0 64) best ≡ least f (upFrom 48 16) (least f (upFrom 32 16) (least f (upFrom 16 16) (least f (upFrom 0 16) best)))
-      in-blocks f best =
-          least-append f (upFrom 0 16) (upFrom 16 48) best
-          ∙ least-append f (upFrom 16 16) (upFrom 32 32) (least f (upFrom 0 16) best)
-          ∙ least-append f (upFrom 32 16) (upFrom 48 16) (least f (upFrom 16 16) (least f (upFrom 0 16) best))
+-- four, of which the first and the last are no cheaper than the best so far
+module _ (n : ℕ → ℕ) (g : ℕ → ℕ) where
+  abbrev two : ℕ → ℕ × ℕ → ℕ × ℕ
+  two d best = tried (n (d + 2)) (g (d + 2)) (tried (n (d + 1)) (g (d + 1)) best)
+
+  two-le : (d : ℕ) (best : ℕ × ℕ) → two d best .1 ≤ best .1
+  two-le d best =
+      omega (arith, tried-le (n (d + 2)) (g (d + 2)) (tried (n (d + 1)) (g (d + 1)) best) .0, tried-le (n (d + 1)) (g (d + 1)) best .0)
+
+  four : (d : ℕ) (best : ℕ × ℕ) → best .1 ≤ g d → best .1 ≤ g (d + 3)
+      → tried (n (d + 3)) (g (d + 3)) (two d (tried (n d) (g d) best)) ≡ two d best
+  four d best h k =
+      rw (passed (n d) (g d) best h) (passed (n (d + 3)) (g (d + 3)) (two d best) (omega (arith, two-le d best)))
+
+  -- the candidates of a list of digits
+  abbrev steps : List ℕ → ℕ × ℕ → ℕ × ℕ
+  steps [] best = best
+  steps (d ∷ ds) best = steps ds (tried (n d) (g d) best)
+
+  abbrev first-four : ℕ × ℕ → ℕ × ℕ
+  first-four best = tried (n 3) (g 3) (two 0 (tried (n 0) (g 0) best))
+
+  ten : (k w : ℕ) → (g 0 ≡ k) × (g 4 ≡ k) × (g 8 ≡ k) × (g 12 ≡ k) → (g 3 ≡ w) × (g 7 ≡ w) × (g 11 ≡ w) × (g 15 ≡ w) → (best : ℕ × ℕ)
+      → steps (upFrom 0 16) best ≡ two 12 (two 8 (two 4 (first-four best)))
+  ten k w K W best =
+      let b₀ : ℕ × ℕ = tried (n 0) (g 0) best in
+      let b : ℕ × ℕ = first-four best in
+      let l = tried-le (n 0) (g 0) best .1 in
+      let m = two-le 0 b₀ in
+      let r = tried-le (n 3) (g 3) (two 0 b₀) in
+      let c : ℕ × ℕ = two 4 b in
+      let lc = two-le 4 b in
+      let d : ℕ × ℕ = two 8 c in
+      let ld = two-le 8 c in
+      ap (steps (upFrom 8 8)) (four 4 b (omega arith) (omega arith))
+      ∙ ap (steps (upFrom 12 4)) (four 8 c (omega arith) (omega arith))
+      ∙ four 12 d (omega arith) (omega arith)
+
+-- ---- numbers of candidates
+
+-- what the binary digits of a number say
+module _ (first x y d : ℕ) (e : first ≡ 32 * x + 16 * y) (hx : x < 2) (hy : y < 2) (hd : d < 16) where
+  digits : ((first + d) / 32 % 2 ≡ x) × ((first + d) / 16 % 2 ≡ y) × ((first + d) / 8 % 2 ≡ d / 8 % 2) × ((first + d) / 4 % 2 ≡ d / 4 % 2) × ((first + d) / 2 % 2 ≡ d / 2 % 2) × ((first + d) % 2 ≡ d % 2)
+  digits = (omega arith, omega arith, omega arith, omega arith, omega arith, omega arith)
+
+-- sixteen numbers from `first` on
+least-steps : (f g : ℕ → ℕ) (first a k : ℕ) (best : ℕ × ℕ) → ((d : ℕ) → d < a + k → f (first + d) ≡ g d)
+    → least f (upFrom (first + a) k) best ≡ steps (λ d. first + d) g (upFrom a k) best
+unfolding tried
+least-steps f g first a zero best e = refl
+least-steps f g first a (suc k) best e =
+    rw (← add-suc, e a (omega arith)) (least-steps f g first (suc a) k (cond (ltb (g a) (best .1)) (first + a, g a) best) (λ d h. e d (omega arith)))
+
+in-blocks : (f : ℕ → ℕ) (best : ℕ × ℕ) → least f (upFrom 0 64) best ≡ least f (upFrom 48 16) (least f (upFrom 32 16) (least f (upFrom 16 16) (least f (upFrom 0 16) best)))
+in-blocks f best =
+    least-append f (upFrom 0 16) (upFrom 16 48) best
+    ∙ least-append f (upFrom 16 16) (upFrom 32 32) (least f (upFrom 0 16) best)
+    ∙ least-append f (upFrom 32 16) (upFrom 48 16) (least f (upFrom 16 16) (least f (upFrom 0 16) best))
+
+-- ---- cuts
+
+-- the cut before the stop, or after it
+cutOf : Cuts → ℕ → Cut
+cutOf c zero = c .before
+cutOf c (suc x) = c .after
+
+-- c is the route of stop s, reversed or not, cut before and after the stop
+record Side (t : List ℕ) (a b : ℕ) (turn : Bool) (r : Route) (s : ℕ) (c : Cuts) : Type 0 where
+  cut : (x : ℕ) → x < 2 → CutAt t a b (turned turn r) (position s (turned turn r) + x) (cutOf c x)
+
+module _ {t : List ℕ} {a b : ℕ} {r : Route} {s : ℕ} {c : Cuts} (C : CutBy t a b r (position s r) c) where
+  plain : Side t a b false r s c
+  unfolding cutOf
+  plain = record { cut = go }
+    where
+      go : (x : ℕ) → x < 2 → CutAt t a b r (position s r + x) (cutOf c x)
+      go zero h = rw add-zero (C .0)
+      go (suc zero) h = C .1
+      go (suc (suc x)) h = absurd (omega arith)
+
+  back : Once r → member s r ≡ true → Side t a b true r s (reversedCuts c)
+  unfolding cutOf
+  back o m = record { cut = go }
+    where
+      go : (x : ℕ) → x < 2 → CutAt t a b (reverse r) (position s (reverse r) + x) (cutOf (reversedCuts c) x)
+      go zero h = cut-reversed (position s r + 1) _ (omega (arith, position-reverse r o s m, position-lt s r m)) (C .1)
+      go (suc zero) h = cut-reversed (position s r) _ (omega (arith, position-reverse r o s m, position-lt s r m)) (C .0)
+      go (suc (suc x)) h = absurd (omega arith)
+
+module _ (t : List ℕ) (p : Prices) (a b : ℕ) {ra : Route} {i : ℕ} {c : Cut} {rb : Route} {j : ℕ} {d : Cut} (C : CutAt t a b ra i c) (D : CutAt t a b rb j d) where
+  -- two routes of known heads and tails
+  cut-price : (heads tails : Bool) → cutsPrice t p heads tails c d ≡ pairPrice t p a b (exchanged heads tails ra i rb j)
+  unfolding wayPrice
+  cut-price true true = ap₂ _+_ (ap (price p) (joined-way t a _ _ _ _ (C .head .0) (C .tail .0))) (ap (price p) (joined-way t b _ _ _ _ (D .head .1) (D .tail .1)))
+  cut-price true false = ap₂ _+_ (ap (price p) (joined-way t a _ _ _ _ (C .head .0) (D .tail .0))) (ap (price p) (joined-way t b _ _ _ _ (D .head .1) (C .tail .1)))
+  cut-price false true = ap₂ _+_ (ap (price p) (joined-way t a _ _ _ _ (D .head .0) (C .tail .0))) (ap (price p) (joined-way t b _ _ _ _ (C .head .1) (D .tail .1)))
+  cut-price false false = ap₂ _+_ (ap (price p) (joined-way t a _ _ _ _ (D .head .0) (D .tail .0))) (ap (price p) (joined-way t b _ _ _ _ (C .head .1) (C .tail .1)))
+
+  -- both ends kept, or both exchanged: the cuts do not matter
+  kept-price : cutsPrice t p true true c d ≡ pairPrice t p a b (ra, rb)
+  kept-price = cut-price true true ∙ rw (take-append-drop i ra, take-append-drop j rb)
+
+  exchanged-price : cutsPrice t p false false c d ≡ pairPrice t p a b (rb, ra)
+  exchanged-price = cut-price false false ∙ rw (take-append-drop i ra, take-append-drop j rb)
+
+-- what the last four digits of a number say of two cut routes
+digitPrice : List ℕ → Prices → Cuts → Cuts → ℕ → ℕ
+digitPrice t p c d n = cutsPrice t p (eqb (n / 2 % 2) 0) (eqb (n % 2) 0) (cutOf c (n / 8 % 2)) (cutOf d (n / 4 % 2))
+
+-- two routes that are turned in one way
+module _ (t : List ℕ) (p : Prices) (a : ℕ) (ra : Route) (s b : ℕ) (rb : Route) (u : ℕ) (x y : ℕ) (hx : x < 2) (hy : y < 2) {c d : Cuts}
+    (A : Side t a b (eqb x 1) ra s c) (B : Side t a b (eqb y 1) rb u d) where
+  side-price : (first n : ℕ) → first ≡ 32 * x + 16 * y → n < 16 → priceAt t p a ra s b rb u (first + n) ≡ digitPrice t p c d n
+  unfolding digitPrice
+  side-price first n e h =
+      let D = digits first x y n e hx hy h in
+      rw (D .0, D .1, D .2, D .3, D .4, D .5)
+      (sym (cut-price t p a b (A .cut (n / 8 % 2) (omega arith)) (B .cut (n / 4 % 2) (omega arith)) (eqb (n / 2 % 2) 0) (eqb (n % 2) 0)))
+
+  side-block : (first : ℕ) → first ≡ 32 * x + 16 * y → (best : ℕ × ℕ)
+      → least (priceAt t p a ra s b rb u) (upFrom (first + 0) 16) best
+      ≡ two (λ n. first + n) (digitPrice t p c d) 12 (two (λ n. first + n) (digitPrice t p c d) 8 (two (λ n. first + n) (digitPrice t p c d) 4 (first-four (λ n. first + n) (digitPrice t p c d) best)))
+  unfolding digitPrice cutOf
+  side-block first e best =
+      least-steps (priceAt t p a ra s b rb u) (digitPrice t p c d) first 0 16 best (λ n h. side-price first n e h)
+      ∙ ten (λ n. first + n) (digitPrice t p c d) _ _ (
+        kept-price t p a b (A .cut 0 (omega arith)) (B .cut 0 (omega arith)),
+        kept-price t p a b (A .cut 0 (omega arith)) (B .cut 1 (omega arith)),
+        kept-price t p a b (A .cut 1 (omega arith)) (B .cut 0 (omega arith)),
+        kept-price t p a b (A .cut 1 (omega arith)) (B .cut 1 (omega arith)),
+      ) (
+        exchanged-price t p a b (A .cut 0 (omega arith)) (B .cut 0 (omega arith)),
+        exchanged-price t p a b (A .cut 0 (omega arith)) (B .cut 1 (omega arith)),
+        exchanged-price t p a b (A .cut 1 (omega arith)) (B .cut 0 (omega arith)),
+        exchanged-price t p a b (A .cut 1 (omega arith)) (B .cut 1 (omega arith)),
+      ) best
+
+-- ---- all four ways to turn two routes
+
+module _ {t : List ℕ} {p : Prices} {a : ℕ} {ra : Route} {s b : ℕ} {rb : Route} {u : ℕ} (R : Routes t p a ra s b rb u) where
+  pub first-there : (i : ℕ) → i ≡ position s ra → i < length ra
+  first-there i e = rw e (position-lt s ra (R .firstStop))
+
+  pub second-there : (j : ℕ) → j ≡ position u rb → j < length rb
+  second-there j e = rw e (position-lt u rb (R .secondStop))
+
+  module _ {i j : ℕ} (ei : i ≡ position s ra) (ej : j ≡ position u rb) {c d : Cuts} (C : CutBy t a b ra i c) (D : CutBy t a b rb j d) where
+    pub two-routes : TwoRoutes t p c d
+    two-routes =
+        record {
+          table = R .table;
+          prices = R .prices;
+          m = length ra;
+          n = length rb;
+          few = R .few;
+          firstBefore = sized ra i (R .firstRow) (C .0);
+          firstAfter = sized ra (i + 1) (R .firstRow) (C .1);
+          secondBefore = sized rb j (R .secondRow) (D .0);
+          secondAfter = sized rb (j + 1) (R .secondRow) (D .1);
+        }
+      where
+        sized : (r : Route) (k : ℕ) {e : Cut} → Drivable r → CutAt t a b r k e → Sized (length r) e
+        sized r k D E =
+            record {
+              heads = length (take k r);
+              tails = length (drop k r);
+              few = omega (arith, length-take k r, length-drop k r);
+              head = head-short k (R .table) (R .first) (R .second) D E;
+              tail = tail-short k (R .table) (R .first) (R .second) D E;
+            }
+
+    pub all-found : afterAll t p c d ≡ leastPair t p a ra s b rb u
+    unfolding leastPair afterAll afterTurns digitPrice cutOf
+    all-found =
+        let f : ℕ → ℕ = priceAt t p a ra s b rb u in
+        let A = plain {s = s} (rw ei at C) in
+        let A′ = back {s = s} (rw ei at C) (R .firstOnce) (R .firstStop) in
+        let B = plain {s = u} (rw ej at D) in
+        let B′ = back {s = u} (rw ej at D) (R .secondOnce) (R .secondStop) in
+        let z : f 0 ≡ cutsPrice t p true true (c .before) (d .before) = side-price t p a ra s b rb u 0 0 (omega arith) (omega arith) A B 0 0 refl (omega arith) in
+        let e₀ : least f (upFrom 0 16) (0, f 0) ≡ afterTurns t p c d 0 (0, cutsPrice t p true true (c .before) (d .before)) =
+        side-block t p a ra s b rb u 0 0 (omega arith) (omega arith) A B 0 refl (0, f 0) ∙ rw z
+        in
+        let e₁ = side-block t p a ra s b rb u 0 1 (omega arith) (omega arith) A B′ 16 refl (least f (upFrom 0 16) (0, f 0)) in
+        let e₂ = side-block t p a ra s b rb u 1 0 (omega arith) (omega arith) A′ B 32 refl (least f (upFrom 16 16) (least f (upFrom 0 16) (0, f 0))) in
+        let e₃ = side-block t p a ra s b rb u 1 1 (omega arith) (omega arith) A′ B′ 48 refl (least f (upFrom 32 16) (least f (upFrom 16 16) (least f (upFrom 0 16) (0, f 0)))) in
+        sym
+        (in-blocks f (0, f 0)
+        ∙ e₃
+        ∙ ap (afterTurns t p (reversedCuts c) (reversedCuts d) 48) (e₂ ∙ ap (afterTurns t p (reversedCuts c) d 32) (e₁ ∙ ap (afterTurns t p c (reversedCuts d) 16) e₀)))

@@ -1,33 +1,22 @@
--- Laws of weighing candidates in f64, and of the loop over their numbers. Assumes nothing.
-use Prim.Native.Nat.{ℕ, suc, _+_, _-_, _<_, _≤_}
+-- Laws of weighing candidates in f64, and of the cuts that they are made of. Assumes nothing.
+use Prim.Native.Nat.{ℕ, _+_, _≤_}
 use native.Mathlib.Omega.{arith}
-use native.Mathlib.Numerals.{add-one}
-use mathlib.Core.Path.{_≡_, ap}
-use mathlib.Core.Bool.{Bool, true, false, cond}
+use mathlib.Core.Path.{_≡_, sym, _∙_}
+use mathlib.Core.Bool.{Bool, true, false}
 use mathlib.Core.List.{List}
 use lib.Dec.{ltb}
 use lib.Ieee.{Float, binary64, add}
 use Rattle.model.specs.declared.Prices.{Prices}
 use Rattle.model.specs.Whole.{whole, amount, IsWhole}
-use Rattle.model.specs.Lists.{upFrom}
-use Rattle.model.specs.Plan.{Route}
-use Rattle.model.specs.Legs.{Affordable}
+use Rattle.model.specs.Legs.{LegTable, Affordable}
 use Rattle.model.specs.Cost.{price}
 use Rattle.whole.proofs.Laws.{amount-is}
-use Rattle.distance.specs.Ways.{RouteLength}
-use Rattle.two_opt_sums.specs.Rows.{Cuts}
 use Rattle.delivery.proofs.Laws.{price-small, sum-exact}
-use Rattle.two_opt_candidates.specs.Pairs.{choiceOf, chosen, wayPrice, pairPrice, rowsPrice, least}
-use Rattle.two_opt_candidates.specs.Weighed.{Weighs, Rows}
-use Rattle.two_opt_candidates.specs.declared.Choice.{Choice}
-
--- a test that came out
-module _ {A : Type 0} (x y : A) (t u : Bool) (e : t ≡ u) where
-  pub picks-first : t ≡ true → x ≡ cond u x y
-  picks-first h = rw (← e, h)
-
-  pub picks-second : t ≡ false → y ≡ cond u x y
-  picks-second h = rw (← e, h)
+use Rattle.two_opt_cuts.specs.declared.Ends.{Ends}
+use Rattle.two_opt_cuts.specs.declared.Cut.{Cut}
+use Rattle.two_opt_cuts.specs.declared.Cuts.{Cuts}
+use Rattle.two_opt_cuts.specs.Ends.{Shorts, reversedCuts}
+use Rattle.two_opt_candidates.specs.Weighed.{Weighs, tried, cutsPrice, afterExchange, afterTurns, afterAll, Joins, Sized, TwoCuts, TwoRoutes}
 
 -- ---- prices
 
@@ -38,67 +27,130 @@ module _ {m : ℕ} {c : Float} (w : Weighs m c) where
   pub weighs-amount : amount c ≡ m
   weighs-amount = amount-is c m (w .1) (w .0)
 
+  -- the best so far is replaced, or it is not
+  module _ (code : ℕ) (best : ℕ × ℕ) (t : Bool) (e : t ≡ ltb (amount c) (best .1)) where
+    pub tried-first : t ≡ true → (code, amount c) ≡ tried code m best
+    unfolding tried
+    tried-first h = let k : ltb (amount c) (best .1) ≡ true = sym e ∙ h in rw (← weighs-amount, k)
+
+    pub tried-second : t ≡ false → best ≡ tried code m best
+    unfolding tried
+    tried-second h = let k : ltb (amount c) (best .1) ≡ false = sym e ∙ h in rw (← weighs-amount, k)
+
 -- two routes of known lengths
-pub pair-weighs : (legs : List ℕ) (p : Prices) (a b : ℕ) (x y : Route) (dx dy : ℕ) (cx cy : Float) → Affordable p
-    → RouteLength legs a x dx → RouteLength legs b y dy → cx ≡ whole (price p dx) → cy ≡ whole (price p dy)
-    → Weighs (pairPrice legs p a b (x, y)) (add binary64 cx cy)
-unfolding wayPrice
-pair-weighs legs p a b x y dx dy cx cy A X Y ex ey =
-    let hx : price p dx ≤ 4112000000000000 = price-small p A dx (omega (arith, X .small)) in
-    let hy : price p dy ≤ 4112000000000000 = price-small p A dy (omega (arith, Y .small)) in
-    rw (ex, ey, ← X .way, ← Y .way) (sum-exact (price p dx) (price p dy) (omega arith), omega arith)
+pub pair-weighs : (p : Prices) (x y dx dy : ℕ) (cx cy : Float) → Affordable p → x ≡ dx → y ≡ dy → x ≤ 13000000 → y ≤ 13000000
+    → cx ≡ whole (price p x) → cy ≡ whole (price p y) → Weighs (price p dx + price p dy) (add binary64 cx cy)
+pair-weighs p x y dx dy cx cy A ex ey sx sy wx wy =
+    let hx : price p x ≤ 4112000000000000 = price-small p A x (omega arith) in
+    let hy : price p y ≤ 4112000000000000 = price-small p A y (omega arith) in
+    rw (wx, wy, ← ex, ← ey) (sum-exact (price p x) (price p y) (omega arith), omega arith)
 
--- ---- the choice of a candidate
+-- ---- cuts
 
-pub choice-cuts : (code i j : ℕ) (c : Choice) → c ≡ choiceOf code i j → (c .first ≤ i + 1) × (c .second ≤ j + 1)
-choice-cuts code i j c e = omega (arith, ap (λ (x : Choice). x .first) e, ap (λ (x : Choice). x .second) e)
+module _ {t : List ℕ} {p : Prices} (T : LegTable t) (A : Affordable p) where
+  joins : {h e g u : Ends} (i j k l : ℕ) → i + j ≤ 64 → k + l ≤ 64 → Shorts i h → Shorts j e → Shorts k g → Shorts l u → Joins t p h e g u
+  joins i j k l few more H E G U =
+      record {
+        table = T;
+        prices = A;
+        firstHead = H .0 .near;
+        firstTail = E .0 .near;
+        first = omega (arith, H .0 .out, E .0 .back);
+        secondHead = G .1 .near;
+        secondTail = U .1 .near;
+        second = omega (arith, G .1 .out, U .1 .back);
+      }
 
-module _ {legs : List ℕ} {p : Prices} {a : ℕ} {ra : Route} {sa : List ℕ} {i b : ℕ} {rb : Route} {sb : List ℕ} {j : ℕ}
-    (R : Rows legs p a ra sa i b rb sb j) (code : ℕ) (c : Choice) (e : c ≡ choiceOf code i j) where
-  pub first-cuts : Cuts legs a ra sa (c .first) rb sb (c .second)
-  first-cuts =
-      let k = choice-cuts code i j c e in
+module _ {t : List ℕ} {p : Prices} {x y : Cut} (C : TwoCuts t p x y) where
+  pub joins-own : Joins t p (x .head) (x .tail) (y .head) (y .tail)
+  joins-own =
+      let X = C .first in
+      let Y = C .second in
+      joins (C .table) (C .prices) (X .heads) (X .tails) (Y .heads) (Y .tails) (omega (arith, C .few, X .few)) (omega (arith, C .few, Y .few)) (X .head) (X .tail) (Y .head) (Y .tail)
+
+  pub joins-tails : Joins t p (x .head) (y .tail) (y .head) (x .tail)
+  joins-tails =
+      let X = C .first in
+      let Y = C .second in
+      joins (C .table) (C .prices) (X .heads) (Y .tails) (Y .heads) (X .tails) (omega (arith, C .few, X .few, Y .few)) (omega (arith, C .few, X .few, Y .few)) (X .head) (Y .tail) (Y .head) (X .tail)
+
+-- the second route first
+pub exchange : {t : List ℕ} {p : Prices} {x y : Cut} → TwoCuts t p x y → TwoCuts t p y x
+exchange C = record { table = C .table; prices = C .prices; m = C .n; n = C .m; few = omega (arith, C .few); first = C .second; second = C .first }
+
+-- which cuts are taken of two routes
+module _ {t : List ℕ} {p : Prices} {x y : Cuts} (R : TwoRoutes t p x y) where
+  two-cuts : {c d : Cut} → Sized (R .m) c → Sized (R .n) d → TwoCuts t p c d
+  two-cuts C D = record { table = R .table; prices = R .prices; m = R .m; n = R .n; few = R .few; first = C; second = D }
+
+  pub both-before : TwoCuts t p (x .before) (y .before)
+  both-before = two-cuts (R .firstBefore) (R .secondBefore)
+
+  pub first-after : TwoCuts t p (x .after) (y .before)
+  first-after = two-cuts (R .firstAfter) (R .secondBefore)
+
+  pub both-after : TwoCuts t p (x .after) (y .after)
+  both-after = two-cuts (R .firstAfter) (R .secondAfter)
+
+-- a cut route that is reversed
+turn : {m : ℕ} {c : Cut} → Sized m c → Sized m (record { head = c .tail; tail = c .head })
+turn C = record { heads = C .tails; tails = C .heads; few = omega (arith, C .few); head = C .tail; tail = C .head }
+
+module _ {t : List ℕ} {p : Prices} {x y : Cuts} (R : TwoRoutes t p x y) where
+  pub second-turned : {q : Cuts} → q ≡ reversedCuts y → TwoRoutes t p x q
+  second-turned e =
+      rw e
       record {
         table = R .table;
-        known = R .first;
-        owns = R .firstRow;
-        ownSummed = R .firstSums;
-        ownCut = omega (arith, R .firstAt);
-        others = R .secondRow;
-        otherSummed = R .secondSums;
-        otherCut = omega (arith, R .secondAt);
+        prices = R .prices;
+        m = R .m;
+        n = R .n;
         few = R .few;
+        firstBefore = R .firstBefore;
+        firstAfter = R .firstAfter;
+        secondBefore = turn (R .secondAfter);
+        secondAfter = turn (R .secondBefore);
       }
 
-  pub second-cuts : Cuts legs b rb sb (c .second) ra sa (c .first)
-  second-cuts =
-      let k = choice-cuts code i j c e in
+  pub first-turned : {q : Cuts} → q ≡ reversedCuts x → TwoRoutes t p q y
+  first-turned e =
+      rw e
       record {
         table = R .table;
-        known = R .second;
-        owns = R .secondRow;
-        ownSummed = R .secondSums;
-        ownCut = omega (arith, R .secondAt);
-        others = R .firstRow;
-        otherSummed = R .firstSums;
-        otherCut = omega (arith, R .firstAt);
-        few = omega (arith, R .few);
+        prices = R .prices;
+        m = R .m;
+        n = R .n;
+        few = R .few;
+        firstBefore = turn (R .firstAfter);
+        firstAfter = turn (R .firstBefore);
+        secondBefore = R .secondBefore;
+        secondAfter = R .secondAfter;
       }
 
-  pub choice-weighs : (x : Float) → Weighs (pairPrice legs p a b (chosen ra rb c)) x → Weighs (rowsPrice legs p a ra i b rb j code) x
-  choice-weighs x w = rw e at w
+-- ---- one after another
 
--- ---- the sixteen numbers from `first` on
+module _ (t : List ℕ) (p : Prices) where
+  pub two-tried : (x y : Cut) (code : ℕ) (best : ℕ × ℕ) {one two : ℕ × ℕ} → one ≡ tried (code + 1) (cutsPrice t p true false x y) best
+      → two ≡ tried (code + 2) (cutsPrice t p false true x y) one → two ≡ afterExchange t p x y code best
+  two-tried x y code best e f = rw (f, e)
 
-pub least-first : (f : ℕ → ℕ) (first : ℕ) (best : ℕ × ℕ) → least f (upFrom first (first + 16 - first)) best ≡ least f (upFrom first 16) best
-least-first f first best = let k : first + 16 - first ≡ 16 = omega arith in rw k
+  pub ten-tried : (x y : Cuts) (code : ℕ) (best : ℕ × ℕ) {kept ends whole one two all : ℕ × ℕ}
+      → kept ≡ tried code (cutsPrice t p true true (x .before) (y .before)) best
+      → ends ≡ afterExchange t p (x .before) (y .before) code kept
+      → whole ≡ tried (code + 3) (cutsPrice t p false false (x .before) (y .before)) ends
+      → one ≡ afterExchange t p (x .before) (y .after) (code + 4) whole
+      → two ≡ afterExchange t p (x .after) (y .before) (code + 8) one
+      → all ≡ afterExchange t p (x .after) (y .after) (code + 12) two
+      → all ≡ afterTurns t p x y code best
+  unfolding afterTurns
+  ten-tried x y code best e f g h i j = rw (j, i, h, g, f, e)
 
-module _ (f : ℕ → ℕ) (first code : ℕ) (best : ℕ × ℕ) where
-  pub least-next : (x : ℕ) (next : ℕ × ℕ) → code < first + 16 → x ≡ f code → next ≡ cond (ltb x (best .1)) (code, x) best
-      → least f (upFrom (code + 1) (first + 16 - (code + 1))) next ≡ least f (upFrom code (first + 16 - code)) best
-  least-next x next h ex en =
-      let k : first + 16 - code ≡ suc (first + 16 - (code + 1)) = omega arith in
-      rw (en, ex, k, add-one)
-
-  pub least-end : first + 16 ≤ code → least f (upFrom code (first + 16 - code)) best ≡ best
-  least-end h = let k : first + 16 - code ≡ 0 = omega arith in rw k
+  pub all-tried : (x y : Cuts) {u v : Cuts} {old : ℕ} {none second first both : ℕ × ℕ} → u ≡ reversedCuts x → v ≡ reversedCuts y
+      → old ≡ cutsPrice t p true true (x .before) (y .before)
+      → none ≡ afterTurns t p x y 0 (0, old)
+      → second ≡ afterTurns t p x v 16 none
+      → first ≡ afterTurns t p u y 32 second
+      → both ≡ afterTurns t p u v 48 first
+      → both ≡ afterAll t p x y
+  unfolding afterAll
+  all-tried x y eu ev eo e f g h = rw (h, g, f, e, eo, eu, ev)

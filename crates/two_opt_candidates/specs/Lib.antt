@@ -1,3 +1,3 @@
--- What the contracts of this crate cite beside the definitions of `model`, `distance` and `two_opt_sums`.
+-- What the contracts of this crate cite beside the definitions of `model`, `distance` and `two_opt_cuts`.
 pub mod Pairs
 pub mod Weighed

@@ -48,10 +48,6 @@ wayPrice table p k r = price p (tableLegs table (depot k) r (depot k))
 abbrev pub pairPrice : List ℕ → Prices → ℕ → ℕ → Route × Route → ℕ
 pairPrice table p a b x = wayPrice table p a (x .0) + wayPrice table p b (x .1)
 
--- what a candidate costs that is made of two rows
-abbrev pub rowsPrice : List ℕ → Prices → ℕ → Route → ℕ → ℕ → Route → ℕ → ℕ → ℕ
-rowsPrice table p a ra i b rb j code = pairPrice table p a b (pairOf ra i rb j code)
-
 -- what a candidate costs that is made of two routes
 abbrev pub priceAt : List ℕ → Prices → ℕ → Route → ℕ → ℕ → Route → ℕ → ℕ → ℕ
 priceAt table p a ra s b rb t code = pairPrice table p a b (candidate ra s rb t code)

@@ -1,37 +1,16 @@
 // The candidates of a pair of stops on two routes, the tail exchange of Potvin and Rousseau 1995 widened by reversals and
 // exchanged heads: they are numbered, and weighed by the lengths of the two routes alone.
 ghost use mathlib.Core.Path.{_≡_};
-ghost use mathlib.Core.Bool.{cond};
-ghost use mathlib.Core.List.{reverse};
-ghost use Prim.Native.Nat.{_≤_};
-ghost use lib.ListN.{length};
-ghost use lib.Dec.{ltb};
-ghost use Rattle.model.specs.Whole.{IsWhole, amount};
-ghost use Rattle.model.specs.Lists.{upFrom};
+ghost use Prim.Native.Nat.{_+_, _≤_, _<_};
+ghost use Rattle.model.specs.Whole.{IsWhole};
 ghost use Rattle.model.specs.Legs.{LegTable};
-ghost use Rattle.distance.specs.Ways.{Drivable};
-ghost use Rattle.two_opt_sums.specs.Rows.{Summed};
-ghost use Rattle.pasting.specs.Put.{put};
-ghost use Rattle.two_opt_candidates.specs.Pairs.{choiceOf, rowsPrice, least, leastPair};
-ghost use Rattle.two_opt_candidates.specs.Weighed.{Weighs, found, Rows, Routes, Turned};
+ghost use Rattle.two_opt_candidates.specs.Pairs.{choiceOf, leastPair};
+ghost use Rattle.two_opt_candidates.specs.Weighed.{Weighs, found, tried, joinedLength, endsPrice, afterExchange, afterTurns, afterAll, Joins, TwoCuts, TwoRoutes, Routes};
 use model::Prices;
-
-// The best candidate so far: its number, and the price of its two routes.
-pub struct Best {
-    pub code: usize,
-    pub price: f64,
-}
-
-// The best so far, or another candidate where that is strictly cheaper.
-fn better(best: Best, code: usize, price: f64) -> Best
-    requires { ⌜ IsWhole (best .price) × IsWhole price ⌝ }
-    ensures { λ r. ⌜ IsWhole (r .price) × (found r ≡ cond (ltb (amount price) (amount (best .price))) (code, amount price) (found best)) ⌝ }
-{
-    if whole::cheaper(price, best.price) {
-        return Best { code, price };
-    }
-    best
-}
+use two_opt_cuts::Cut;
+use two_opt_cuts::Cuts;
+use two_opt_cuts::End;
+use two_opt_cuts::Ends;
 
 // What a candidate's number says of two rows: where they are cut, and whether each route keeps its own head and its own tail.
 pub struct Choice {
@@ -54,121 +33,102 @@ pub fn choice_of(code: usize, i: usize, j: usize) -> Choice
     }
 }
 
-// What the two routes of a candidate cost that is made of two rows, in which the stops of the pair stand at i and j.
-fn pair_price(
-    legs: &[u32],
-    prices: Prices,
-    a: usize,
-    ra: &[u32],
-    sa: &[u32],
-    i: usize,
-    b: usize,
-    rb: &[u32],
-    sb: &[u32],
-    j: usize,
-    code: usize,
-) -> f64
-    requires { ⌜ Rows (now legs) prices a (now ra) (now sa) i b (now rb) (now sb) j ⌝ }
-    ensures { λ r. ⌜ Weighs (rowsPrice (now (legs .entry)) prices a (now (ra .entry)) i b (now (rb .entry)) j code) r ⌝ }
+// The best candidate so far: its number, and the price of its two routes.
+pub struct Best {
+    pub code: usize,
+    pub price: f64,
+}
+
+// The length of a route that is joined from a head and a tail.
+fn joined(legs: &[u32], head: End, tail: End) -> u32
+    requires { ⌜ LegTable (now legs) × (head .joint < 80) × (tail .joint < 80) × (head .out + tail .back ≤ 12800000) ⌝ }
+    ensures { λ r. ⌜ (r ≡ joinedLength (now (legs .entry)) head tail) × (r ≤ 13000000) ⌝ }
 {
-    let c = choice_of(code, i, j);
-    let x = two_opt_sums::exchanged_length(
-        legs,
-        a,
-        c.heads,
-        c.tails,
-        ra,
-        sa,
-        c.first,
-        rb,
-        sb,
-        c.second,
-    );
-    let y = two_opt_sums::exchanged_length(
-        legs,
-        b,
-        c.heads,
-        c.tails,
-        rb,
-        sb,
-        c.second,
-        ra,
-        sa,
-        c.first,
-    );
+    head.out + distance::leg(legs, head.joint, tail.joint) + tail.back
+}
+
+// What two routes cost: the one of head h and tail t on the first vehicle, and the one of head g and tail u on the second.
+fn pair_price(legs: &[u32], prices: Prices, h: Ends, t: Ends, g: Ends, u: Ends) -> f64
+    requires { ⌜ Joins (now legs) prices h t g u ⌝ }
+    ensures { λ r. ⌜ Weighs (endsPrice (now (legs .entry)) prices h t g u) r ⌝ }
+{
+    let x = joined(legs, h.first, t.first);
+    let y = joined(legs, g.second, u.second);
     delivery::price(x, prices) + delivery::price(y, prices)
 }
 
-// The best so far and the sixteen candidates from `first` on, which are made of two rows.
-fn least_of_rows(
+// The best so far, or the candidate of two such routes where that is strictly cheaper.
+fn weighed(
     legs: &[u32],
     prices: Prices,
-    a: usize,
-    ra: &[u32],
-    sa: &[u32],
-    i: usize,
-    b: usize,
-    rb: &[u32],
-    sb: &[u32],
-    j: usize,
-    first: usize,
+    h: Ends,
+    t: Ends,
+    g: Ends,
+    u: Ends,
+    code: usize,
     best: Best,
 ) -> Best
-    requires { ⌜ Rows (now legs) prices a (now ra) (now sa) i b (now rb) (now sb) j ⌝ }
-    requires { ⌜ (first ≤ 48) × IsWhole (best .price) ⌝ }
-    ensures { λ r. ⌜ IsWhole (r .price) × (found r ≡ least (rowsPrice (now (legs .entry)) prices a (now (ra .entry)) i b (now (rb .entry)) j) (upFrom first 16) (found best)) ⌝ }
+    requires { ⌜ Joins (now legs) prices h t g u × IsWhole (best .price) ⌝ }
+    ensures { λ r. ⌜ IsWhole (r .price) × (found r ≡ tried code (endsPrice (now (legs .entry)) prices h t g u) (found best)) ⌝ }
 {
-    let mut kept = best;
-    let mut code = first;
-    while code < first + 16 {
-        let price = pair_price(legs, prices, a, ra, sa, i, b, rb, sb, j, code);
-        kept = better(kept, code, price);
-        code += 1;
+    let price = pair_price(legs, prices, h, t, g, u);
+    if whole::cheaper(price, best.price) {
+        return Best { code, price };
     }
-    kept
+    best
 }
 
-// The kept candidate of two routes, which are also given reversed: reversed is none of them, the second, the first, both.
-// In a reversed route a stop stands as far from the end as it stood from the front.
-fn least_of_four(
-    legs: &[u32],
-    prices: Prices,
-    a: usize,
-    ra: &[u32],
-    sa: &[u32],
-    xa: &[u32],
-    ta: &[u32],
-    s: u32,
-    b: usize,
-    rb: &[u32],
-    sb: &[u32],
-    xb: &[u32],
-    tb: &[u32],
-    t: u32,
-) -> Best
-    requires { ⌜ Turned (now legs) prices a (now ra) (now sa) (now xa) (now ta) s b (now rb) (now sb) (now xb) (now tb) t ⌝ }
-    ensures { λ r. ⌜ found r ≡ leastPair (now (legs .entry)) prices a (now (ra .entry)) s b (now (rb .entry)) t ⌝ }
+// The best so far and the candidates of two cut routes that exchange their tails (code + 1) or their heads (code + 2).
+fn exchanged(legs: &[u32], prices: Prices, x: Cut, y: Cut, code: usize, best: Best) -> Best
+    requires { ⌜ TwoCuts (now legs) prices x y × (code ≤ 60) × IsWhole (best .price) ⌝ }
+    ensures { λ r. ⌜ IsWhole (r .price) × (found r ≡ afterExchange (now (legs .entry)) prices x y code (found best)) ⌝ }
 {
-    let i = solution::position(ra, s);
-    let j = solution::position(rb, t);
-    let k = xa.len() - 1 - i;
-    let l = xb.len() - 1 - j;
-    let price = pair_price(legs, prices, a, ra, sa, i, b, rb, sb, j, 0);
+    let tails = weighed(legs, prices, x.head, y.tail, y.head, x.tail, code + 1, best);
+    weighed(
+        legs,
+        prices,
+        y.head,
+        x.tail,
+        x.head,
+        y.tail,
+        code + 2,
+        tails,
+    )
+}
+
+// The best so far and the sixteen candidates of two routes that are turned in one way. Those that keep or exchange both heads
+// and tails have the same two routes for all cuts, so they are weighed once.
+fn least_of_turns(legs: &[u32], prices: Prices, x: Cuts, y: Cuts, code: usize, best: Best) -> Best
+    requires { ⌜ TwoRoutes (now legs) prices x y × (code ≤ 48) × IsWhole (best .price) ⌝ }
+    ensures { λ r. ⌜ IsWhole (r .price) × (found r ≡ afterTurns (now (legs .entry)) prices x y code (found best)) ⌝ }
+{
+    let a = x.before;
+    let b = y.before;
+    let c = x.after;
+    let d = y.after;
+    let kept = weighed(legs, prices, a.head, a.tail, b.head, b.tail, code, best);
+    let ends = exchanged(legs, prices, a, b, code, kept);
+    let whole = weighed(legs, prices, b.head, b.tail, a.head, a.tail, code + 3, ends);
+    let one = exchanged(legs, prices, a, d, code + 4, whole);
+    let two = exchanged(legs, prices, c, b, code + 8, one);
+    exchanged(legs, prices, c, d, code + 12, two)
+}
+
+// The best candidate of two routes that are cut: reversed is none of them, the second, the first, both.
+fn least_of_cuts(legs: &[u32], prices: Prices, x: Cuts, y: Cuts) -> Best
+    requires { ⌜ TwoRoutes (now legs) prices x y ⌝ }
+    ensures { λ r. ⌜ found r ≡ afterAll (now (legs .entry)) prices x y ⌝ }
+{
+    let a = x.before;
+    let b = y.before;
+    let price = pair_price(legs, prices, a.head, a.tail, b.head, b.tail);
     let old = Best { code: 0, price };
-    let none = least_of_rows(legs, prices, a, ra, sa, i, b, rb, sb, j, 0, old);
-    let second = least_of_rows(legs, prices, a, ra, sa, i, b, xb, tb, l, 16, none);
-    let first = least_of_rows(legs, prices, a, xa, ta, k, b, rb, sb, j, 32, second);
-    least_of_rows(legs, prices, a, xa, ta, k, b, xb, tb, l, 48, first)
-}
-
-// Writes a route reversed, and the sums of its inner legs.
-fn turn(legs: &[u32], route: &[u32], row: &mut [u32], sums: &mut [u32])
-    requires { ⌜ LegTable (now legs) × Drivable (now route) × (length (now route) ≤ length (now row)) × (length (now route) ≤ length (now sums)) ⌝ }
-    ensures { λ _. ⌜ now (row .exit) ≡ put (now (row .entry)) 0 (reverse (now (route .entry))) ⌝ }
-    ensures { λ _. ⌜ Summed (now (legs .entry)) (reverse (now (route .entry))) (now (sums .exit)) ⌝ }
-{
-    let end = pasting::paste_reversed(row, 0, route);
-    two_opt_sums::sum_legs(legs, &row[..end], sums);
+    let p = two_opt_cuts::reversed(x);
+    let q = two_opt_cuts::reversed(y);
+    let none = least_of_turns(legs, prices, x, y, 0, old);
+    let second = least_of_turns(legs, prices, x, q, 16, none);
+    let first = least_of_turns(legs, prices, p, y, 32, second);
+    least_of_turns(legs, prices, p, q, 48, first)
 }
 
 // The kept candidate of two routes.
@@ -185,32 +145,9 @@ pub fn least_pair(
     requires { ⌜ Routes (now legs) prices a (now ra) s b (now rb) t ⌝ }
     ensures { λ r. ⌜ found r ≡ leastPair (now (legs .entry)) prices a (now (ra .entry)) s b (now (rb .entry)) t ⌝ }
 {
-    let m = ra.len();
-    let mut sa = [0u32; 64];
-    two_opt_sums::sum_legs(legs, ra, &mut sa);
-    let mut xa = [0u32; 64];
-    let mut ta = [0u32; 64];
-    turn(legs, ra, &mut xa, &mut ta);
-    let n = rb.len();
-    let mut sb = [0u32; 64];
-    two_opt_sums::sum_legs(legs, rb, &mut sb);
-    let mut xb = [0u32; 64];
-    let mut tb = [0u32; 64];
-    turn(legs, rb, &mut xb, &mut tb);
-    least_of_four(
-        legs,
-        prices,
-        a,
-        ra,
-        &sa,
-        &xa[..m],
-        &ta,
-        s,
-        b,
-        rb,
-        &sb,
-        &xb[..n],
-        &tb,
-        t,
-    )
+    let i = solution::position(ra, s);
+    let j = solution::position(rb, t);
+    let x = two_opt_cuts::cut_at(legs, a, b, ra, i);
+    let y = two_opt_cuts::cut_at(legs, a, b, rb, j);
+    least_of_cuts(legs, prices, x, y)
 }

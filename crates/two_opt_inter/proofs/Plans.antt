@@ -24,7 +24,7 @@ use Rattle.two_opt_candidates.specs.Weighed.{Routes, found}
 use Rattle.two_opt_inter.specs.Move.{OnTwoRoutes, TwoRoutes, Pair, NewRows}
 use Rattle.two_opt_candidates.specs.declared.Best.{Best}
 use Rattle.two_opt_candidates.specs.declared.Choice.{Choice}
-use Rattle.two_opt_candidates.proofs.Rows.{Front, front}
+use Rattle.two_opt_inter.proofs.Rows.{Front, front}
 use Rattle.two_opt_candidates.proofs.Pairs.{pair-lengths, length-turned, plan-old, plan-moved, inter-least}
 
 -- two routes hold no more stops than the plan

@@ -2,9 +2,9 @@
 use mathlib.Core.Path.{_≡_}
 use mathlib.Core.Logic.{_≢_}
 use Prim.Native.Nat.{ℕ, _+_, _<_}
-use mathlib.Core.Bool.{true}
-use mathlib.Core.List.{List}
-use lib.ListN.{length}
+use mathlib.Core.Bool.{Bool, true, cond}
+use mathlib.Core.List.{List, _++_}
+use lib.ListN.{length, take, drop}
 use Rattle.model.specs.Lists.{member}
 use Rattle.model.specs.Plan.{Route, routeOf, decode, Lent, Sizes}
 
@@ -35,3 +35,8 @@ pub record NewRows (v : ℕ) (xs : List ℕ) (a : ℕ) (ra : Route) (i b : ℕ) 
   pub firstAt : i < length ra
   pub secondAt : j < length rb
   pub asMany : length ra + length rb ≡ length (routeOf (decode v xs) a) + length (routeOf (decode v xs) b)
+
+-- A route of a head and a tail, each of a vehicle's own row, cut at i, or of the other one, cut at j.
+-- (Of the two rows and of the two rows turned about it gives both routes of model's `exchanged`.)
+abbrev pub joinedRoute : Bool → Bool → Route → ℕ → Route → ℕ → Route
+joinedRoute heads tails own i other j = cond heads (take i own) (take j other) ++ cond tails (drop i own) (drop j other)

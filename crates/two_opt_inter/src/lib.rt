@@ -7,11 +7,10 @@ ghost use Rattle.model.specs.Job.{Job};
 ghost use Rattle.model.specs.Plan.{routeOf, encode, decode, Lent};
 ghost use Rattle.model.specs.Legs.{Fits};
 ghost use Rattle.model.specs.TwoOpt.{turned, setRoute, inter};
-ghost use Rattle.two_opt_sums.specs.Rows.{joinedRoute};
 ghost use Rattle.delivery.specs.Costs.{Ready};
 ghost use Rattle.pasting.specs.Put.{put};
 ghost use Rattle.two_opt_candidates.specs.Pairs.{pairOf, planAt, leastPair};
-ghost use Rattle.two_opt_inter.specs.Move.{OnTwoRoutes, TwoRoutes, Pair, NewRows};
+ghost use Rattle.two_opt_inter.specs.Move.{OnTwoRoutes, TwoRoutes, Pair, NewRows, joinedRoute};
 use model::Prices;
 use two_opt_candidates::Best;
 

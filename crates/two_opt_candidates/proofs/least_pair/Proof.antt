@@ -1,117 +1,45 @@
 -- `two_opt_candidates::least_pair` meets its contract.
 use borrow.Author.Needs.{needs}
-use mathlib.Core.Path.{refl}
-use lib.ListN.{length}
-use denote.Ref.{now}
-use Rattle.two_opt_candidates.proofs.Rows.{back, summed-back}
+use mathlib.Core.Path.{_∙_}
+use Rattle.two_opt_candidates.proofs.Sides.{first-there, second-there, two-routes, all-found}
 use Rattle.two_opt_candidates.proofs.least_pair.Statement.{statement}
 use Rattle.two_opt_candidates.proofs.least_pair.Tie as tie
 
-slice-aggregate-sum-legs : tie.Need-slice-aggregate-sum-legs
-slice-aggregate-sum-legs c = search needs
+abbrev start : tie.After-position2 → tie.Start
+start c = c .before .before .before .before .before
 
-sum-legs-requires : tie.Need-sum-legs-requires
-sum-legs-requires c κs = search needs
+position-requires : tie.Need-position-requires
+position-requires c κs = search needs
 
-slice-aggregate-turn : tie.Need-slice-aggregate-turn
-slice-aggregate-turn c = search needs
+position-requires-2 : tie.Need-position-requires-2
+position-requires-2 c κs = search needs
 
-slice-aggregate-turn-2 : tie.Need-slice-aggregate-turn-2
-slice-aggregate-turn-2 c = search needs
+cut-at-requires : tie.Need-cut-at-requires
+cut-at-requires c κs = let s = start c in (s .pre .table, s .pre .first, s .pre .second, s .pre .firstRow, first-there (s .pre) (c .before .position .result) (c .before .position .ensures))
 
-turn-requires : tie.Need-turn-requires
-turn-requires c κs = search needs
+cut-at-requires-2 : tie.Need-cut-at-requires-2
+cut-at-requires-2 c κs = let s = start (c .before) in (s .pre .table, s .pre .first, s .pre .second, s .pre .secondRow, second-there (s .pre) (c .before .position2 .result) (c .before .position2 .ensures))
 
-slice-aggregate-sum-legs-2 : tie.Need-slice-aggregate-sum-legs-2
-slice-aggregate-sum-legs-2 c = search needs
-
-sum-legs-requires-2 : tie.Need-sum-legs-requires-2
-sum-legs-requires-2 c κs = search needs
-
-slice-aggregate-turn-3 : tie.Need-slice-aggregate-turn-3
-slice-aggregate-turn-3 c = search needs
-
-slice-aggregate-turn-4 : tie.Need-slice-aggregate-turn-4
-slice-aggregate-turn-4 c = search needs
-
-turn-requires-2 : tie.Need-turn-requires-2
-turn-requires-2 c κs = search needs
-
-abbrev start : tie.After-turn → tie.Start
-start c = c .before .before .before .before .before .before .before .before .before
-
-abbrev first-turn : tie.After-turn2 → tie.After-turn
-first-turn c = c .before .before .before .before .before .before .before .before
-
-slice-aggregate-least-of-four : tie.Need-slice-aggregate-least-of-four
-slice-aggregate-least-of-four c = search needs
-
-array-share-prefix-xa : tie.Need-array-share-prefix-xa
-array-share-prefix-xa c = search needs
-
-slice-aggregate-least-of-four-2 : tie.Need-slice-aggregate-least-of-four-2
-slice-aggregate-least-of-four-2 c =
-    let f = c .before .before .before .before .before .before .before .before .before .before .before .before in
-    back _ (f .turn .last .1 .1 .0) (now (start f .args .ra)) (length (now (start f .args .ra))) (f .turn .ensures .0) refl .size
-
-slice-aggregate-least-of-four-3 : tie.Need-slice-aggregate-least-of-four-3
-slice-aggregate-least-of-four-3 c = search needs
-
-slice-aggregate-least-of-four-4 : tie.Need-slice-aggregate-least-of-four-4
-slice-aggregate-least-of-four-4 c = search needs
-
-array-share-prefix-xb : tie.Need-array-share-prefix-xb
-array-share-prefix-xb c = search needs
-
-slice-aggregate-least-of-four-5 : tie.Need-slice-aggregate-least-of-four-5
-slice-aggregate-least-of-four-5 c =
-    let g = c .before .before .before .before .before .before .before in
-    let a = start (first-turn g) .args in
-    back _ (g .turn2 .last .1 .1 .0) (now (a .rb)) (length (now (a .rb))) (g .turn2 .ensures .0) refl .size
-
-slice-aggregate-least-of-four-6 : tie.Need-slice-aggregate-least-of-four-6
-slice-aggregate-least-of-four-6 c = search needs
-
-least-of-four-requires : tie.Need-least-of-four-requires
-least-of-four-requires c κs =
-    let g = c .before .before .before .before .before .before .before .before in
-    let f = first-turn g in
-    let s = start f in
-    let a = s .args in
-    record {
-      routes = s .pre;
-      firstSums = f .before .before .before .before .sum-legs .ensures .0;
-      firstTurned = back _ (f .turn .last .1 .1 .0) (now (a .ra)) (length (now (a .ra))) (f .turn .ensures .0) refl .is;
-      firstTurnedSums = summed-back _ (f .turn .last .1 .1 .0) (now (a .ra)) (length (now (a .ra))) (f .turn .ensures .0) refl (now (a .legs)) _ (f .turn .ensures .1);
-      secondSums = g .before .before .before .before .sum-legs2 .ensures .0;
-      secondTurned = back _ (g .turn2 .last .1 .1 .0) (now (a .rb)) (length (now (a .rb))) (g .turn2 .ensures .0) refl .is;
-      secondTurnedSums = summed-back _ (g .turn2 .last .1 .1 .0) (now (a .rb)) (length (now (a .rb))) (g .turn2 .ensures .0) refl (now (a .legs)) _ (g .turn2 .ensures .1);
-    }
+least-of-cuts-requires : tie.Need-least-of-cuts-requires
+least-of-cuts-requires c κs =
+    let x = c .before in
+    let f = x .before in
+    two-routes (start f .pre) (f .before .position .ensures) (f .position2 .ensures) (x .cut-at .ensures) (c .cut-at2 .ensures)
 
 returns : tie.Need-returns
-returns c = search needs
+returns c =
+    let y = c .before in
+    let x = y .before in
+    let f = x .before in
+    c .least-of-cuts .ensures ∙ all-found (start f .pre) (f .before .position .ensures) (f .position2 .ensures) (x .cut-at .ensures) (y .cut-at2 .ensures)
 
 pub least-pair-spec : {M : Type 1} → statement M
 least-pair-spec =
     tie.close
     (tie.spec
-    slice-aggregate-sum-legs
-    sum-legs-requires
-    slice-aggregate-turn
-    slice-aggregate-turn-2
-    turn-requires
-    slice-aggregate-sum-legs-2
-    sum-legs-requires-2
-    slice-aggregate-turn-3
-    slice-aggregate-turn-4
-    turn-requires-2
-    slice-aggregate-least-of-four
-    array-share-prefix-xa
-    slice-aggregate-least-of-four-2
-    slice-aggregate-least-of-four-3
-    slice-aggregate-least-of-four-4
-    array-share-prefix-xb
-    slice-aggregate-least-of-four-5
-    slice-aggregate-least-of-four-6
-    least-of-four-requires
+    position-requires
+    position-requires-2
+    cut-at-requires
+    cut-at-requires-2
+    least-of-cuts-requires
     returns)

@@ -3,7 +3,7 @@ use borrow.Author.Needs.{needs}
 use native.Mathlib.Omega.{arith}
 use lib.ListN.{take}
 use denote.Ref.{now}
-use Rattle.two_opt_candidates.proofs.Rows.{Front, front}
+use Rattle.two_opt_inter.proofs.Rows.{Front, front}
 use Rattle.two_opt_inter.proofs.Plans.{the-pair, left, left-old, pair-copied, copy-written}
 use Rattle.two_opt_inter.proofs.inter.Statement.{statement}
 use Rattle.two_opt_inter.proofs.inter.Tie as tie

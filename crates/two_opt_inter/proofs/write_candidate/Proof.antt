@@ -6,7 +6,7 @@ use lib.ListN.{length}
 use denote.Ref.{now}
 use Rattle.model.specs.Plan.{decode}
 use Rattle.model.specs.TwoOpt.{turned}
-use Rattle.two_opt_candidates.proofs.Rows.{Front}
+use Rattle.two_opt_inter.proofs.Rows.{Front}
 use Rattle.two_opt_inter.proofs.Plans.{two-routes, routes-short, turned-front, turned-rows, turned-written}
 use Rattle.two_opt_inter.proofs.write_candidate.Statement.{statement}
 use Rattle.two_opt_inter.proofs.write_candidate.Tie as tie

@@ -6,8 +6,7 @@ use lib.ListN.{length, take}
 use denote.Ref.{now}
 use Rattle.model.specs.Plan.{decode}
 use Rattle.two_opt_candidates.specs.Pairs.{pairOf}
-use Rattle.two_opt_candidates.proofs.Weighing.{choice-cuts}
-use Rattle.two_opt_candidates.proofs.Rows.{Front, front}
+use Rattle.two_opt_inter.proofs.Rows.{Front, front, choice-cuts}
 use Rattle.two_opt_inter.proofs.Plans.{new-few, new-placed, front-first, front-second, new-written}
 use Rattle.two_opt_inter.proofs.write_pair.Statement.{statement}
 use Rattle.two_opt_inter.proofs.write_pair.Tie as tie
