@@ -1,7 +1,7 @@
 -- The costs of plans within 01's limits are below 2 ^ 53, so that every sum of them in f64 is exact.
 use mathlib.Core.Path.{_≡_, sym, ap, ap₂, _∙_, subst}
 use Prim.Native.Nat.{ℕ, suc, _+_, _-_, _*_, _≤_, _<_}
-use native.Mathlib.Nat.{mul-le-mul, le-trans, add-mul, mul-add, add-zero, add-suc, suc-add}
+use native.Mathlib.Nat.{mul-le-mul, le-trans, add-mul, mul-add, mul-assoc, add-zero, add-suc, suc-add}
 use native.Mathlib.Numerals.{add-one}
 use native.Mathlib.Omega.{arith}
 use mathlib.Core.List.{List, [], _∷_, _++_}
@@ -47,15 +47,17 @@ module _ (p : Prices) (A : Affordable p) where
     pub price-small : price p d ≤ dearest
     price-small = rw price-is (omega (arith, linear, quadratic))
 
-    pub price-exact : add binary64 (mul binary64 (whole d) (whole (p .linear))) (mul binary64 (mul binary64 (whole d) (whole d)) (whole (p .quadratic)))
-        ≡ whole (price p d)
+    metre : d * p .quadratic ≤ 256000000
+    metre = mul-le-mul h (A .quadratic)
+
+    pub price-exact : mul binary64 (whole d) (add binary64 (whole (p .linear)) (mul binary64 (whole d) (whole (p .quadratic)))) ≡ whole (price p d)
     price-exact =
         rw (
-          mul-whole d (p .linear) (omega arith) (omega (arith, A .linear)),
-          mul-whole d d (omega arith) (omega arith),
-          mul-whole (d * d) (p .quadratic) (omega (arith, square)) (omega (arith, A .quadratic)),
+          mul-whole d (p .quadratic) (omega arith) (omega (arith, A .quadratic)),
+          add-whole (p .linear) (d * p .quadratic) (omega (arith, A .linear)) (omega (arith, metre)),
+          mul-whole d (p .linear + d * p .quadratic) (omega arith) (omega (arith, A .linear, metre)),
         )
-        (add-whole (d * p .linear) (d * d * p .quadratic) (omega (arith, linear)) (omega (arith, quadratic)) ∙ ap whole (sym (price-is p d)))
+        (ap whole (rw (price-is p d) (rw (mul-add, mul-assoc))))
 
   module _ (m : ℕ) (h : m ≤ 64) where
     missed : m * p .missed ≤ dearestMissed

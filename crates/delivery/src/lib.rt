@@ -8,13 +8,13 @@ ghost use Rattle.model.specs.Cost.{price, missedCost};
 ghost use Rattle.delivery.specs.Costs.{Ready, Drives, Costs};
 use model::Prices;
 
-// What a route of that length costs. All routes of a plan together are at most 16,000,000 long.
+// What a route of that length costs, one product less than the definition has. All routes of a plan together are at most 16,000,000 long.
 pub fn price(length: u32, prices: Prices) -> f64
     requires { ⌜ (length ≤ 16000000) × Affordable prices ⌝ }
     ensures { λ r. ⌜ r ≡ whole (price prices length) ⌝ }
 {
     let d = length as f64;
-    d * (prices.linear as f64) + d * d * (prices.quadratic as f64)
+    d * (prices.linear as f64 + d * (prices.quadratic as f64))
 }
 
 // What so many missed stops cost.

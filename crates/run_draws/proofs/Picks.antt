@@ -4,7 +4,7 @@ use mathlib.Core.Logic.{_≢_, inl, inr}
 use mathlib.Core.List.{List, [], _∷_}
 use Prim.Native.Nat.{ℕ, suc, _+_, _-_, _*_, _%_, _≤_, _<_}
 use native.Mathlib.Omega.{arith}
-use lib.ListN.{length, getD, take, set}
+use lib.ListN.{length, getD, take, drop, set}
 use Rattle.model.specs.Lists.{without, count, Once}
 use Rattle.model.specs.Run.{drawn}
 use Rattle.model.proofs.Lists.{Tested, tested, one-same, one-other, once-place}
@@ -63,14 +63,14 @@ once-one : (a : ℕ) → Once (a ∷ [])
 once-one a s = omega (arith, once-two a (suc a) (λ e. omega arith) s)
 
 -- what stands in a list of two after it is written
-first-written : (xs : List ℕ) (a : ℕ) → length xs ≡ 2 → take 1 (set xs 0 a) ≡ a ∷ []
+first-written : (xs : List ℕ) (a : ℕ) → length xs ≡ 2 → (take 1 (set xs 0 a) ≡ a ∷ []) × (drop 1 (set xs 0 a) ≡ drop 1 xs)
 first-written [] a e = absurd (omega arith)
-first-written (x ∷ xs) a e = refl
+first-written (x ∷ xs) a e = (refl, refl)
 
-both-written : (xs : List ℕ) (a b : ℕ) → length xs ≡ 2 → take 2 (set (set xs 0 a) 1 b) ≡ a ∷ b ∷ []
+both-written : (xs : List ℕ) (a b : ℕ) → length xs ≡ 2 → (take 2 (set (set xs 0 a) 1 b) ≡ a ∷ b ∷ []) × (drop 2 (set (set xs 0 a) 1 b) ≡ drop 2 xs)
 both-written [] a b e = absurd (omega arith)
 both-written (x ∷ []) a b e = absurd (omega arith)
-both-written (x ∷ y ∷ xs) a b e = refl
+both-written (x ∷ y ∷ xs) a b e = (refl, refl)
 
 -- ---- the picks
 
@@ -98,11 +98,13 @@ module _ (near : List ℕ) (n : ℕ) (ds : List ℕ) (p : ℕ) (picks : List ℕ
   as-drawn : getD (S (drawn ds (p + 2) % n)) (drawn ds (p + 3) % n) 0 ≡ getD (S x) i 0
   as-drawn = ap₂ (λ (y k : ℕ). getD (S y) k 0) (sym ex) (sym ei)
 
-  pub picks-one : more ≡ 0 → Picked near n ds p 1 (set picks 0 (at i))
+  pub picks-one : more ≡ 0 → Picked near n ds p picks 1 (set picks 0 (at i))
   picks-one z =
-      let w = first-written picks (at i) (K .room) in
+      let f = first-written picks (at i) (K .room) in
+      let w = f .0 in
       record {
         drawn = w ∙ ap (λ (s : ℕ). s ∷ []) (sym (as-drawn ∙ in-row i hi)) ∙ sym (picked-one n S ds p (sym em ∙ z));
+        kept = f .1;
         long = ap length w;
         some = omega arith;
         atMost = omega arith;
@@ -113,15 +115,17 @@ module _ (near : List ℕ) (n : ℕ) (ds : List ℕ) (p : ℕ) (picks : List ℕ
   module _ (j : ℕ) (z : more ≢ 0) (lm : more < 2) (ej : j ≡ drawn ds (p + 4) % (n - 1)) (hj : j < n - 1) where
     -- the second pick is at place k of row x
     second : (k : ℕ) → k < n → k ≢ i → getD (without (getD (S x) i 0) (S x)) j 0 ≡ getD (S x) k 0
-        → Picked near n ds p 2 (set (set picks 0 (at i)) 1 (at k))
+        → Picked near n ds p picks 2 (set (set picks 0 (at i)) 1 (at k))
     second k h ne r =
-        let w = both-written picks (at i) (at k) (K .room) in
+        let f = both-written picks (at i) (at k) (K .room) in
+        let w = f .0 in
         let other : at i ≢ at k = λ e. ne (once-place (S x) k i alone (omega (arith, long)) (omega (arith, long)) (in-row k h ∙ sym e ∙ sym (in-row i hi))) in
         let rest : getD (without (getD (S (drawn ds (p + 2) % n)) (drawn ds (p + 3) % n) 0) (S (drawn ds (p + 2) % n))) (drawn ds (p + 4) % (n - 1)) 0 ≡ at k =
         rw (← ex, ← ei, ← ej) (r ∙ in-row k h)
         in
         record {
           drawn = w ∙ ap₂ (λ (s t : ℕ). s ∷ t ∷ []) (sym (as-drawn ∙ in-row i hi)) (sym rest) ∙ sym (picked-two n S ds p (sym em ∙ omega arith));
+          kept = f .1;
           long = ap length w;
           some = omega arith;
           atMost = omega arith;
@@ -129,10 +133,10 @@ module _ (near : List ℕ) (n : ℕ) (ds : List ℕ) (p : ℕ) (picks : List ℕ
           once = rw w (once-two (at i) (at k) other);
         }
 
-    pub picks-before : j < i → Picked near n ds p 2 (set (set picks 0 (at i)) 1 (at j))
+    pub picks-before : j < i → Picked near n ds p picks 2 (set (set picks 0 (at i)) 1 (at j))
     picks-before h = second j (omega arith) (λ e. omega arith) (rest-before (S x) i j alone (omega (arith, long)) h)
 
-    pub picks-after : i ≤ j → Picked near n ds p 2 (set (set picks 0 (at i)) 1 (getD near (x * 64 + j + 1) 0))
+    pub picks-after : i ≤ j → Picked near n ds p picks 2 (set (set picks 0 (at i)) 1 (getD near (x * 64 + j + 1) 0))
     picks-after h =
         let e : x * 64 + j + 1 ≡ x * 64 + (j + 1) = omega arith in
         rw e (second (j + 1) (omega arith) (λ e. omega arith) (rest-after (S x) i j alone (omega (arith, long)) h))

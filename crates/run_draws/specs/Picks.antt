@@ -4,7 +4,7 @@ use Prim.Native.Nat.{ℕ, _+_, _-_, _%_, _≤_, _<_}
 use mathlib.Core.Bool.{cond}
 use mathlib.Core.List.{List, [], _∷_}
 use lib.Dec.{eqb}
-use lib.ListN.{length, getD, take}
+use lib.ListN.{length, getD, take, drop}
 use Rattle.model.specs.Lists.{count, without, Once}
 use Rattle.model.specs.Run.{drawn}
 use Rattle.nearest_neighbor.specs.Answers.{rowOf, Neighbours}
@@ -28,9 +28,10 @@ pub record Pickable (near : List ℕ) (n : ℕ) (draws : List ℕ) (place : ℕ)
   pub early : place ≤ 1000000000000
   pub room : length picks ≡ 2
 
--- the first r of `picks` are the round's, one or two different stops
-pub record Picked (near : List ℕ) (n : ℕ) (draws : List ℕ) (place r : ℕ) (picks : List ℕ) : Type 0 where
+-- the first r of `picks` are the round's, one or two different stops, and the others are as they were
+pub record Picked (near : List ℕ) (n : ℕ) (draws : List ℕ) (place : ℕ) (old : List ℕ) (r : ℕ) (picks : List ℕ) : Type 0 where
   pub drawn : take r picks ≡ pickedFrom n (λ x. rowOf n x near) draws place
+  pub kept : drop r picks ≡ drop r old
   pub long : length (take r picks) ≡ r
   pub some : 1 ≤ r
   pub atMost : r ≤ 2

@@ -25,7 +25,7 @@ pub fn among(draws: &[u32], place: usize, m: usize) -> usize
 // a second one from the rest of S(x). `near` has S(x) of every stop in rows of 64.
 pub fn pick(near: &[u32], n: usize, draws: &[u32], place: usize, picks: &mut [u32]) -> usize
     requires { ⌜ Pickable (now near) n (now draws) place (now picks) ⌝ }
-    ensures { λ r. ⌜ Picked (now (near .entry)) n (now (draws .entry)) place r (now (picks .exit)) ⌝ }
+    ensures { λ r. ⌜ Picked (now (near .entry)) n (now (draws .entry)) place (now (picks .entry)) r (now (picks .exit)) ⌝ }
 {
     let more = among(draws, place + 1, 2);
     let row = among(draws, place + 2, n) * 64;

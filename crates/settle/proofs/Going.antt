@@ -13,7 +13,8 @@ use borrow.Author.Tests.{ltb-true, ltb-false}
 use Rattle.model.specs.declared.Averages.{Averages}
 use Rattle.model.specs.Whole.{whole, exact}
 use Rattle.model.specs.Settle.{noAverages, average, averaged, settles}
-use Rattle.settle.proofs.Laws.{moved, gained}
+use Rattle.settle.specs.Rounds.{moved}
+use Rattle.settle.proofs.Laws.{gained}
 use Rattle.settle.proofs.Decay.{share, full, Fallen, fallen-none, fallen-more}
 use Rattle.settle.proofs.Mixed.{mixed, mixed-le, mixed-ge, mixed-half, mixed-mono, mixed-new, mixed-idle, mixed-idle-le}
 use Rattle.settle.proofs.Bar.{bar, bar-ge, fallen-under}

@@ -10,6 +10,7 @@ use Rattle.model.specs.declared.Averages.{Averages}
 use Rattle.model.specs.Whole.{whole, exact}
 use Rattle.model.specs.Settle.{average, averaged, ratio, settles}
 use Rattle.whole.proofs.Laws.{lt-whole, sub-whole}
+use Rattle.settle.specs.Rounds.{moved, Rounded}
 
 -- ---- the average: the new value where the old one is 0, and else the weighted one
 pub weighed : (c : ℕ) (old new : Float) (b : Bool) → eq old (whole 0) ≡ b
@@ -17,23 +18,21 @@ pub weighed : (c : ℕ) (old new : Float) (b : Bool) → eq old (whole 0) ≡ b
 unfolding average
 weighed c old new b t = ap (λ (x : Bool). cond x new (div binary64 (add binary64 (mul binary64 old (whole (c - 1))) new) (whole c))) t
 
--- ---- both averages after a round whose gain is d
-abbrev pub both : Float → Float → Averages
-both x y = record { delta = x; update = y }
-
-abbrev pub moved : ℕ → Averages → Float → Bool → Averages
-moved c a d improves = both (average c (a .delta) d) (cond improves (average c (a .update) d) (a .update))
-
+-- ---- both averages after a round
 pub averaged-moved : (c : ℕ) (a : Averages) (m k : ℕ) → averaged c a m k ≡ moved c a (sub binary64 (whole m) (whole k)) (ltb k m)
 unfolding averaged
 averaged-moved c a m k = refl
 
--- on floats that are whole numbers
-pub rounded : (c : ℕ) (a : Averages) (old new : Float) (b : Bool) (m k : ℕ) → lt new old ≡ b → m ≤ exact → k ≤ exact → old ≡ whole m → new ≡ whole k
-    → averaged c a m k ≡ moved c a (sub binary64 old new) b
-rounded c a old new b m k t M K p q =
-    averaged-moved c a m k
-    ∙ ap₂ (moved c a) (ap₂ (sub binary64) (sym p) (sym q)) (sym (lt-whole k m K M) ∙ ap₂ lt (sym q) (sym p) ∙ t)
+-- what an arm of the code returns, where `new < old` is as its test found it
+pub rounded : (c : ℕ) (a : Averages) (old new : Float) (b : Bool) → lt new old ≡ b → Rounded c a old new (moved c a (sub binary64 old new) b)
+rounded c a old new b t =
+    record {
+      floats = ap (moved c a (sub binary64 old new)) (sym t);
+      numbers = λ m k M K p q.
+          sym
+          (averaged-moved c a m k
+          ∙ ap₂ (moved c a) (ap₂ (sub binary64) (sym p) (sym q)) (sym (lt-whole k m K M) ∙ ap₂ lt (sym q) (sym p) ∙ t));
+    }
 
 -- the gain as a whole number
 pub gained : (c : ℕ) (a : Averages) (m k : ℕ) → m ≤ exact → k ≤ m → averaged c a m k ≡ moved c a (whole (m - k)) (ltb k m)

@@ -1,2 +1,3 @@
--- What a run looks like to the averages, and the bound on its rounds.
+-- What a round makes of the averages, what a run looks like to them, and the bound on its rounds.
 pub mod Costs
+pub mod Rounds

@@ -1,9 +1,9 @@
 // 01, "Settling": the two averages of a run, and the rule that stops it.
 ghost use mathlib.Core.Path.{_≡_};
-ghost use Prim.Native.Nat.{ℕ, _≤_};
-ghost use Rattle.model.specs.Whole.{whole, exact};
-ghost use Rattle.model.specs.Settle.{noAverages, averaged, settles};
+ghost use Prim.Native.Nat.{_≤_};
+ghost use Rattle.model.specs.Settle.{noAverages, settles};
 ghost use Rattle.model.specs.Settle as Settle;
+ghost use Rattle.settle.specs.Rounds.{Rounded};
 use model::Averages;
 
 // The averages that a run begins with.
@@ -28,10 +28,10 @@ pub fn average(old: f64, new: f64, smoothing: u32) -> f64
     }
 }
 
-// The averages after a round that takes the cost from `old` to `new`. Costs are whole numbers, here m and k.
+// The averages after a round that takes the cost from `old` to `new`.
 pub fn after_round(a: Averages, old: f64, new: f64, smoothing: u32) -> Averages
     requires { ⌜ 1 ≤ smoothing ⌝ }
-    ensures { λ r. ⌜ ((m k : ℕ) → m ≤ exact → k ≤ exact → old ≡ whole m → new ≡ whole k → r ≡ averaged smoothing a m k) ⌝ }
+    ensures { λ r. ⌜ Rounded smoothing a old new r ⌝ }
 {
     let gain = old - new;
     let delta = average(a.delta, gain, smoothing);

@@ -1,9 +1,9 @@
 -- One turn of each loop of the crate: what a definition says of the list from place i on, said by what stands at i and the list from i + 1 on.
 -- Assumes nothing.
-use Prim.Native.Nat.{ℕ, _+_, _<_}
+use Prim.Native.Nat.{ℕ, _+_, _-_, _≤_, _<_}
 use native.Mathlib.Omega.{arith}
 use native.Mathlib.Numerals.{add-one}
-use mathlib.Core.Path.{_≡_, sym, _∙_}
+use mathlib.Core.Path.{_≡_, sym}
 use mathlib.Core.Bool.{Bool, true, false}
 use mathlib.Core.List.{List, [], _∷_}
 use lib.Dec.{ltb}
@@ -49,15 +49,18 @@ module _ (xs ys : List ℕ) (i : ℕ) where
     pub lower-here : (getD xs i 0 ≡ getD ys i 0 → ⊥) → lower (drop i xs) (drop i ys) ≡ ltb (getD xs i 0) (getD ys i 0)
     lower-here e = rw (from-here xs i h, from-here ys i k, ne-eqb (getD xs i 0) (getD ys i 0) e)
 
--- ---- the first place of x
+-- ---- the first place of x, from the end of the list
 
-module _ (x : ℕ) (xs : List ℕ) (i : ℕ) where
-  pub position-end : i ≡ length xs → position x xs ≡ i + position x (drop i xs) → i ≡ position x xs
-  position-end e p = sym (p ∙ rw (from-end xs i e) (omega arith))
+module _ (x : ℕ) (xs : List ℕ) where
+  pub position-end : (i : ℕ) → i ≡ length xs → i ≡ i + position x (drop i xs)
+  position-end i e = rw (from-end xs i e) (omega arith)
 
-  module _ (h : i < length xs) where
-    pub position-here : getD xs i 0 ≡ x → position x xs ≡ i + position x (drop i xs) → i ≡ position x xs
-    position-here e p = sym (p ∙ rw (from-here xs i h, eq-eqb x (getD xs i 0) (sym e)) (omega arith))
+  module _ (i : ℕ) (h : 0 < i) (k : i ≤ length xs) where
+    back : drop (i - 1) xs ≡ getD xs (i - 1) 0 ∷ drop i xs
+    back = let e : i - 1 + 1 ≡ i = omega arith in rw e at (from-here xs (i - 1) (omega arith))
 
-    pub position-more : (getD xs i 0 ≡ x → ⊥) → position x xs ≡ i + position x (drop i xs) → position x xs ≡ i + 1 + position x (drop (i + 1) xs)
-    position-more f p = p ∙ rw (from-here xs i h, ne-eqb x (getD xs i 0) (λ e. f (sym e))) (omega arith)
+    pub position-here : getD xs (i - 1) 0 ≡ x → i - 1 ≡ i - 1 + position x (drop (i - 1) xs)
+    position-here e = rw (back, eq-eqb x (getD xs (i - 1) 0) (sym e)) (omega arith)
+
+    pub position-more : (at : ℕ) → at ≡ i + position x (drop i xs) → (getD xs (i - 1) 0 ≡ x → ⊥) → at ≡ i - 1 + position x (drop (i - 1) xs)
+    position-more at p f = rw (back, ne-eqb x (getD xs (i - 1) 0) (λ e. f (sym e))) (omega arith)

@@ -82,18 +82,20 @@ pub fn placed_set(plan: &[u32], v: usize, n: usize) -> u64
     set_of(&plan[v..end])
 }
 
-// The first position of a stop, or the length where there is none.
+// The first position of a stop, or the length where there is none. It goes from the end to the front and does not leave early: so the
+// compiler compares several numbers at once, and no branch is guessed wrong.
 pub fn position(part: &[u32], stop: u32) -> usize
     ensures { λ r. ⌜ r ≡ position stop (now (part .entry)) ⌝ }
 {
-    let mut i = 0;
-    while i < part.len() {
+    let mut at = part.len();
+    let mut i = part.len();
+    while 0 < i {
+        i -= 1;
         if part[i] == stop {
-            return i;
+            at = i;
         }
-        i += 1;
     }
-    i
+    at
 }
 
 // Where a stop is: its vehicle, and its position on that vehicle's route.
@@ -107,24 +109,23 @@ pub enum Found {
     Nowhere,
 }
 
-// Where a stop is in a plan.
+// Where a stop is in a plan: its position in the whole stops area, less the lengths of the routes before its own. Unused places come after all routes.
 pub fn find(plan: &[u32], v: usize, n: usize, stop: u32) -> Found
     requires { ⌜ Sizes v n ⌝ }
     requires { ⌜ Lent v n (now plan) ⌝ }
     ensures { λ r. ⌜ r ≡ placeOf stop (decode v (now (plan .entry))) ⌝ }
 {
-    let mut start = v;
+    let mut at = position(&plan[v..], stop);
     let mut k = 0;
     while k < v {
-        let end = start + plan[k] as usize;
-        let i = position(&plan[start..end], stop);
-        if i < end - start {
+        let size = plan[k] as usize;
+        if at < size {
             return Found::At(Place {
                 vehicle: k,
-                position: i,
+                position: at,
             });
         }
-        start = end;
+        at -= size;
         k += 1;
     }
     Found::Nowhere

@@ -35,7 +35,7 @@ returns c =
       one = omega (arith, one .ensures .0);
       is =
           λ m k M K p q.
-          (c .before .before .before .before .after-round .ensures m k M K p q, ap (λ (x : ℕ). old .improving + x) (one .ensures .1 m k M K p q));
+          (c .before .before .before .before .after-round .ensures .numbers m k M K p q, ap (λ (x : ℕ). old .improving + x) (one .ensures .1 m k M K p q));
     }
 
 pub counted-spec : {M : Type 1} → statement M

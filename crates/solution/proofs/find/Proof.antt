@@ -1,47 +1,24 @@
--- `solution::find` meets its contract. Assumes nothing.
+-- `solution::find`: the routes before k do not have the stop, and `at` is its position among the places from route k on.
 use Prim.Native.Nat.{_+_, _-_, _≤_}
-use native.Mathlib.Numerals.{add-one}
-use mathlib.Core.Path.{_≡_}
-use lib.ListN.{getD, take}
-use borrow.Author.Count.{below-more}
-use Rattle.model.specs.Lists.{sum}
-use Rattle.model.proofs.Lists.{sum-more}
-use Rattle.model.proofs.PlanForm.{route-end}
-use Rattle.solution.proofs.Locate.{Passed, nowhere, found, passed}
 use native.Mathlib.Omega.{arith}
+use native.Mathlib.Nat.{add-zero}
+use mathlib.Core.Path.{_≡_, _∙_}
+use lib.ListN.{take, drop}
+use borrow.Author.Count.{below-more}
+use Rattle.model.specs.Lists.{sum, position}
+use Rattle.model.proofs.Lists.{part-end}
+use Rattle.solution.proofs.Locate.{Passed, nowhere, found, passed}
 use Rattle.solution.proofs.find.Statement.{statement}
 use Rattle.solution.proofs.find.Tie as tie
 
 abbrev Inv-loop : tie.InvT-loop
-Inv-loop plan v n stop start₀ k₀ start k = (k ≤ v) × (start ≡ v + sum (take k plan)) × Passed v plan stop k
+Inv-loop plan v n stop at₀ k₀ at k = (k ≤ v) × (at ≡ position stop (drop (v + sum (take k plan)) plan)) × Passed v plan stop k
 
 abbrev μ-loop : tie.MeasureT-loop
-μ-loop plan v n stop start₀ k₀ start k = v - k
-
-loop-holds : tie.Need-loop-holds Inv-loop μ-loop
-loop-holds c = (omega arith, omega arith, λ j h. absurd (omega arith))
-
-mul-end : tie.Need-mul-end Inv-loop μ-loop
-mul-end c = omega arith
-
-shared-slice-read-end : tie.Need-shared-slice-read-end Inv-loop μ-loop
-shared-slice-read-end c = omega arith
-
--- route k ends within the plan
-within : (l : tie.In-loop Inv-loop μ-loop) → let a = l .before .before .before .args in sum (take (l .before .loop .k) (a .plan .now)) + getD (a .plan .now) (l .before .loop .k) 0 ≤ a .n
-within l =
-    let s = l .before .before .before in
-    let p = s .pre .1 in
-    route-end (s .args .v) (s .args .n) (s .args .plan .now) (p .long) (p .fits) (l .before .loop .k) (l .loop-test .taken)
-
-cast-end : tie.Need-cast-end Inv-loop μ-loop
-cast-end c = omega (arith, within (c .before))
-
-add-end : tie.Need-add-end Inv-loop μ-loop
-add-end c = omega (arith, within (c .before))
+μ-loop plan v n stop at₀ k₀ at k = v - k
 
 mul-position : tie.Need-mul-position Inv-loop μ-loop
-mul-position c = omega (arith, within (c .before))
+mul-position c = omega arith
 
 sub-position : tie.Need-sub-position Inv-loop μ-loop
 sub-position c = omega arith
@@ -50,21 +27,29 @@ part-position-start : tie.Need-part-position-start Inv-loop μ-loop
 part-position-start c = omega arith
 
 part-position-end : tie.Need-part-position-end Inv-loop μ-loop
-part-position-end c = omega (arith, within (c .before))
+part-position-end c = omega arith
 
 position-requires : tie.Need-position-requires Inv-loop μ-loop
 position-requires c κs = tt
 
-sub-if1 : tie.Need-sub-if1 Inv-loop μ-loop
-sub-if1 c = omega arith
+loop-holds : tie.Need-loop-holds Inv-loop μ-loop
+loop-holds c = (omega arith, c .position .ensures ∙ rw (part-end, add-zero), λ j h. absurd (omega arith))
+
+mul-size : tie.Need-mul-size Inv-loop μ-loop
+mul-size c = omega arith
+
+shared-slice-read-size : tie.Need-shared-slice-read-size Inv-loop μ-loop
+shared-slice-read-size c = omega arith
+
+cast-size : tie.Need-cast-size Inv-loop μ-loop
+cast-size c = omega (arith, c .shared-slice-known2 .given (c .before .before .loop .k))
 
 returns : tie.Need-returns Inv-loop μ-loop
 returns c =
-    let l = c .before .before .before .before .before in
-    let s = l .before .before in
-    let a = s .args in
-    found (a .v) (a .n) (a .plan .now) (s .pre .1) (a .stop) (l .loop .k) (l .loop .start) (c .before .position .result) (omega arith) (l .loop .inv .1)
-    (c .before .position .ensures) (omega arith)
+    let l = c .before .before .before in
+    let start = l .before .before .before .before in
+    let a = start .args in
+    found (a .v) (a .n) (a .plan .now) (start .pre .1) (a .stop) (l .loop .k) (l .loop .at) (omega arith) (l .loop .inv .1) (omega arith)
 
 add-k : tie.Need-add-k Inv-loop μ-loop
 add-k c = omega arith
@@ -74,22 +59,17 @@ loop-less c = omega arith
 
 loop-again : tie.Need-loop-again Inv-loop μ-loop
 loop-again c =
-    let l = c .before .before .before .before .before in
-    let s = l .before .before in
-    let a = s .args in (
-      omega arith,
-      rw add-one (omega (arith, sum-more (a .plan .now) (l .loop .k))),
-      below-more _ _ (l .loop .inv .2)
-          (passed (a .v) (a .n) (a .plan .now) (s .pre .1) (a .stop) (l .loop .k) (l .loop .start) (c .before .position .result) (omega arith) (l .loop .inv .1)
-          (c .before .position .ensures) (omega arith)),
-    )
+    let l = c .before .before .before in
+    let start = l .before .before .before .before in
+    let a = start .args in
+    let next = passed (a .v) (a .n) (a .plan .now) (start .pre .1) (a .stop) (l .loop .k) (l .loop .at) (omega arith) (l .loop .inv .1) (omega arith) in
+    (omega arith, next .1, below-more _ _ (l .loop .inv .2) (next .0))
 
 returns-2 : tie.Need-returns-2 Inv-loop μ-loop
 returns-2 c =
     let l = c .before in
-    let s = l .before .before in
-    let a = s .args in
-    nowhere (a .v) (a .n) (a .plan .now) (s .pre .1) (a .stop) (l .loop .k) (c .loop-test .left) (l .loop .inv .2)
+    let start = l .before .before .before .before in
+    nowhere (start .args .v) (start .args .n) (start .args .plan .now) (start .pre .1) (start .args .stop) (l .loop .k) (c .loop-test .left) (l .loop .inv .2)
 
 pub find-spec : {M : Type 1} → statement M
 find-spec =
@@ -97,17 +77,15 @@ find-spec =
     (tie.spec
     Inv-loop
     μ-loop
-    loop-holds
-    mul-end
-    shared-slice-read-end
-    cast-end
-    add-end
     mul-position
     sub-position
     part-position-start
     part-position-end
     position-requires
-    sub-if1
+    loop-holds
+    mul-size
+    shared-slice-read-size
+    cast-size
     returns
     add-k
     loop-less
