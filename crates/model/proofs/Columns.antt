@@ -70,10 +70,6 @@ pub numberIn-columns : (w n : ℕ) → numberIn (columns w n) ≡ n
 unfolding columns
 numberIn-columns w n = numberIn-justified (w - length (digits n)) (digits n) ∙ numberIn-digits n
 
--- two numbers never have the same digits
-pub digits-injective : (m n : ℕ) → digits m ≡ digits n → m ≡ n
-digits-injective m n e = sym (numberIn-digits m) ∙ ap numberIn e ∙ numberIn-digits n
-
 -- every field is the written form of at most one number
 pub columns-injective : (w m n : ℕ) → columns w m ≡ columns w n → m ≡ n
 columns-injective w m n e = sym (numberIn-columns w m) ∙ ap numberIn e ∙ numberIn-columns w n

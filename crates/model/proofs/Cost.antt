@@ -7,8 +7,7 @@ use mathlib.Core.Path.{_≡_, refl, sym, _∙_}
 use mathlib.Core.Logic.{_≢_}
 use mathlib.Core.List.{[], _∷_, _++_}
 use lib.Dec.{ltb}
-use lib.ListN.{length, drop}
-use lib.Seq.{drop-cons}
+use lib.ListN.{length}
 use borrow.Author.Tests.{lt-ltb, le-ltb}
 use Rattle.model.specs.declared.Prices.{Prices}
 use Rattle.model.specs.Lists.{change}
@@ -75,10 +74,6 @@ module _ (J : Job) where
   legs-through from (x ∷ xs) s ys to =
       omega (arith, legs-cons from x (xs ++ s ∷ ys) to, legs-cons from x xs (locationOf J s), legs-through (locationOf J x) xs s ys to)
 
-  pub lastLocation-append : (from : ℕ) (xs ys : Route) → lastLocation J from (xs ++ ys) ≡ lastLocation J (lastLocation J from xs) ys
-  lastLocation-append from [] ys = refl
-  lastLocation-append from (s ∷ xs) ys = lastLocation-append (locationOf J s) xs ys
-
   -- no leg is longer than D
   pub legs-le : (D : ℕ) → ((a b : ℕ) → distance J a b ≤ D) → (from : ℕ) (r : Route) (to : ℕ) → legs J from r to ≤ suc (length r) * D
   legs-le D h from [] to = omega (arith, legs-nil from to, h from to)
@@ -88,16 +83,6 @@ module _ (J : Job) where
   routeLength-le D h k r = rw routeLength-is (legs-le D h (startOf J k) r (endOf J k))
 
   -- ---- the routes of a plan
-
-  pub driving-append : (k : ℕ) (P Q : Plan) → drivingFrom J k (P ++ Q) ≡ drivingFrom J k P + drivingFrom J (k + length P) Q
-  driving-append k [] Q = rw (add-zero, driving-nil) (omega arith)
-  driving-append k (r ∷ P) Q =
-      rw (add-suc, ← suc-add) (omega (arith, driving-cons k r (P ++ Q), driving-cons k r P, driving-append (suc k) P Q))
-
-  -- one route more of those that are left
-  pub driving-onward : (k : ℕ) (P : Plan) → k < length P
-      → drivingFrom J k (drop k P) ≡ price (J .prices) (routeLength J k (routeOf P k)) + drivingFrom J (suc k) (drop (suc k) P)
-  driving-onward k P h = rw (drop-cons P k [] h) (driving-cons k (routeOf P k) (drop (suc k) P))
 
   -- what a route of vehicle k costs
   abbrev pub routeCost : ℕ → Route → ℕ
@@ -145,9 +130,6 @@ module _ (J : Job) where
       omega (arith, cost-driving (setRoute b r (setRoute a q P)) P m, driving-routes a b q r P ha hb ne)
 
 -- ---- comparing
-
-pub missedCost-le : (p : Prices) (m k : ℕ) → m ≤ k → missedCost p m ≤ missedCost p k
-missedCost-le p m k h = rw (missedCost-is p m, missedCost-is p k) (mul-le-mul-right (p .missed) h)
 
 pub price-le : (p : Prices) (d e : ℕ) → d ≤ e → price p d ≤ price p e
 price-le p d e h =

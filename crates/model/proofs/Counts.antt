@@ -7,11 +7,11 @@ use native.Mathlib.Decide.{decLt}
 use mathlib.Core.Path.{_≡_, refl, sym, ap, _∙_}
 use mathlib.Core.Logic.{_≢_, inl, inr}
 use mathlib.Core.Bool.{Bool, true, false, cond, not, false≢true, and-eq-true-iff}
-use mathlib.Core.List.{List, [], _∷_, _++_, map, reverse, reverse-cons}
+use mathlib.Core.List.{List, [], _∷_, _++_, reverse, reverse-cons}
 use lib.Dec.{eqb, ltb}
 use lib.ListN.{length, getD, take, drop, replicate, length-append, length-reverse, take-append-drop}
 use borrow.Author.Tests.{eqb-true, eq-eqb, ltb-true, lt-ltb, not-true}
-use Rattle.model.specs.Lists.{sum, concat, change, part, upFrom, member, without, position, count, Once, allBelow, allOnce, same}
+use Rattle.model.specs.Lists.{concat, change, part, upFrom, member, without, position, count, Once, allBelow, allOnce, same}
 use Rattle.model.specs.Plan.{Plan, Route, routeOf, placed}
 use Rattle.model.specs.TwoOpt.{setRoute}
 use Rattle.model.proofs.Lists.{Tested, tested, one-same, one-other, count-member, absent-count, count-absent, count-append, count-at, position-lt, getD-position, position-of, part-split, getD-reverse, getD-change-other, length-change, length-without, count-without, without-absent, length-upFrom, count-upFrom}
@@ -34,37 +34,13 @@ count-take-le x k xs = omega (arith, count-take-drop x k xs)
 pub count-drop-le : (x k : ℕ) (xs : List ℕ) → count x (drop k xs) ≤ count x xs
 count-drop-le x k xs = omega (arith, count-take-drop x k xs)
 
-pub count-part-le : (x a b : ℕ) (xs : List ℕ) → count x (part a b xs) ≤ count x xs
-count-part-le x a b xs = omega (arith, count-take-le x (b - a) (drop a xs), count-drop-le x a xs)
-
 -- one number more
 pub count-more : (x : ℕ) (xs : List ℕ) (i : ℕ) → i < length xs → count x (take (suc i) xs) ≡ count x (take i xs) + cond (eqb x (getD xs i 0)) 1 0
 count-more x [] i h = absurd (omega arith)
 count-more x (y ∷ xs) zero h = omega arith
 count-more x (y ∷ xs) (suc i) h = omega (arith, count-more x xs i (le-of-suc-le-suc h))
 
-pub count-same : (x n : ℕ) → count x (replicate n x) ≡ n
-count-same x zero = refl
-count-same x (suc n) = omega (arith, one-same x x refl, count-same x n)
-
-pub count-other : (x y n : ℕ) → x ≢ y → count x (replicate n y) ≡ 0
-count-other x y zero h = refl
-count-other x y (suc n) h = omega (arith, one-other x y h, count-other x y n h)
-
--- of what a function that keeps numbers apart makes of a list
-pub count-map : (f : ℕ → ℕ) → ((a b : ℕ) → f a ≡ f b → a ≡ b) → (x : ℕ) (xs : List ℕ) → count (f x) (map f xs) ≡ count x xs
-count-map f apart x [] = refl
-count-map f apart x (y ∷ ys) = go (tested x y) (count-map f apart x ys)
-  where
-    go : Tested x y → count (f x) (map f ys) ≡ count x ys → count (f x) (map f (y ∷ ys)) ≡ count x (y ∷ ys)
-    go (inl e) ih = omega (arith, one-same x y (e .0), one-same (f x) (f y) (ap f (e .0)))
-    go (inr e) ih = omega (arith, one-other x y (e .0), one-other (f x) (f y) (λ q. e .0 (apart x y q)))
-
 -- ---- of a plan
-
-pub count-concat : (x : ℕ) (P : Plan) → count x (concat P) ≡ sum (map (count x) P)
-count-concat x [] = refl
-count-concat x (r ∷ P) = omega (arith, count-append x r (concat P), count-concat x P)
 
 pub count-route : (x : ℕ) (P : Plan) (k : ℕ) → count x (routeOf P k) ≤ count x (concat P)
 count-route x [] k = omega arith
@@ -128,18 +104,11 @@ module _ (xs : List ℕ) (o : Once xs) where
   pub once-drop : (k : ℕ) → Once (drop k xs)
   once-drop k = once-le (drop k xs) xs (λ x. count-drop-le x k xs) o
 
-  pub once-part : (a b : ℕ) → Once (part a b xs)
-  once-part a b = once-le (part a b xs) xs (λ x. count-part-le x a b xs) o
-
   pub once-reverse : Once (reverse xs)
   once-reverse = once-kept (reverse xs) xs (λ x. count-reverse x xs) o
 
   pub once-without : (x : ℕ) → member x xs ≡ true → Once (without x xs)
   once-without x m = once-le (without x xs) xs (λ y. omega (arith, count-without x y xs m)) o
-
-  -- x is gone
-  pub without-gone : (x : ℕ) → member x xs ≡ true → count x (without x xs) ≡ 0
-  without-gone x m = omega (arith, count-without x x xs m, one-same x x refl, o x)
 
   -- x brought to the front
   pub once-front : (x : ℕ) → Once (x ∷ without x xs)
@@ -174,20 +143,6 @@ length-le (x ∷ xs) ys h =
 pub length-kept : (xs ys : List ℕ) → ((x : ℕ) → count x xs ≡ count x ys) → length xs ≡ length ys
 length-kept xs ys h = omega (arith, length-le xs ys (λ x. omega (arith, h x)), length-le ys xs (λ x. omega (arith, h x)))
 
--- and where it is as long, nothing is missing
-pub count-full : (xs ys : List ℕ) → ((x : ℕ) → count x xs ≤ count x ys) → length xs ≡ length ys → (x : ℕ) → count x xs ≡ count x ys
-count-full xs ys h e x = go (decLt (count x xs) (count x ys))
-  where
-    fewer : count x xs < count x ys → member x ys ≡ true → (y : ℕ) → Tested y x → count y xs ≤ count y (without x ys)
-    fewer k m y (inl q) = let k′ : count y xs < count y ys = rw (q .0) k in omega (arith, count-without x y ys m, one-same y x (q .0))
-    fewer k m y (inr q) = omega (arith, h y, count-without x y ys m, one-other y x (q .0))
-
-    go : Dec (count x xs < count x ys) → count x xs ≡ count x ys
-    go (no k) = omega (arith, h x)
-    go (yes k) =
-        let m : member x ys ≡ true = count-member x ys (omega arith) in
-        absurd (omega (arith, length-without x ys m, length-le xs (without x ys) (λ y. fewer k m y (tested y x))))
-
 -- every number of a list is below n
 abbrev pub Below : ℕ → List ℕ → Type 0
 Below n xs = (s : ℕ) → 1 ≤ count s xs → s < n
@@ -207,9 +162,6 @@ module _ (n : ℕ) (xs : List ℕ) (o : Once xs) (b : Below n xs) where
   -- no more than n, and if they are n it is all of them
   pub once-few : length xs ≤ n
   once-few = omega (arith, length-le xs (upFrom 0 n) once-below, length-upFrom 0 n)
-
-  pub once-all : length xs ≡ n → (s : ℕ) → s < n → count s xs ≡ 1
-  once-all e s h = count-full xs (upFrom 0 n) once-below (omega (arith, length-upFrom 0 n)) s ∙ count-upFrom s 0 n (omega arith) (omega arith)
 
 -- ---- the tests
 

@@ -1,7 +1,7 @@
 -- 01's Job A, whole: its run computed from the definitions, through the call's own answer and the plan that it leaves.
 use mathlib.Core.Path.{_≡_, refl}
 use Prim.Native.Nat.{ℕ}
-use mathlib.Core.List.{List, [], _∷_}
+use mathlib.Core.List.{[], _∷_}
 use Rattle.model.specs.Refusals.{Arguments, Solve}
 use Rattle.model.specs.Calls.{planLeft, solveAnswer, saidBySolved}
 use Rattle.model.specs.Sums.{jobA}

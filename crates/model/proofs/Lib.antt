@@ -23,3 +23,6 @@ pub mod Pieces
 pub mod Runs
 pub mod Promised
 pub mod Tasks
+pub mod Fitting
+pub mod Cut
+pub mod Distinct

@@ -8,10 +8,10 @@ use native.Mathlib.Decide.{decLt}
 use mathlib.Core.Path.{_≡_, refl, sym, ap, _∙_}
 use mathlib.Core.Logic.{_≢_, _⊎_, inl, inr}
 use mathlib.Core.Bool.{Bool, true, false, cond, _||_, true≢false, false≢true}
-use mathlib.Core.List.{List, [], _∷_, _++_, map, append-assoc, append-nil, reverse, reverse-cons, reverse-append}
+use mathlib.Core.List.{List, [], _∷_, _++_, map, append-assoc, append-nil, reverse, reverse-cons}
 use lib.Dec.{eqb, ltb, leb·suc-suc}
 use lib.ListN.{length, getD, take, drop, set, length-append, length-take, length-drop, length-reverse, take-append-drop, drop-of-length-le, List·getD-append}
-use lib.Seq.{take-add, take-all, drop-drop, drop-cons, drop-at, take-at, take-length, split-at, getD-at, getD-take, getD-drop}
+use lib.Seq.{take-add, take-all, take-length, split-at, getD-at}
 use borrow.Author.Tests.{eqb-true, eqb-false, eq-eqb, ne-eqb, ltb-true, ltb-false, lt-ltb, le-ltb}
 use Rattle.model.specs.Lists.{sum, concat, change, part, upFrom, member, without, position, count, Once}
 
@@ -82,29 +82,11 @@ module _ {A : Type 0} where
   pub length-part : (a b : ℕ) (xs : List A) → b ≤ length xs → length (part a b xs) ≡ b - a
   length-part a b xs h = simp (length-take, length-drop) (omega arith)
 
-  pub getD-part : (a b : ℕ) (xs : List A) (i : ℕ) (d : A) → i < b - a → getD (part a b xs) i d ≡ getD xs (a + i) d
-  getD-part a b xs i d h = rw (getD-take, getD-drop)
-
   pub part-empty : (a : ℕ) (xs : List A) → part a a xs ≡ []
   part-empty a xs = let e : a - a ≡ 0 = omega arith in rw e
 
   pub part-end : (a : ℕ) (xs : List A) → part a (length xs) xs ≡ drop a xs
   part-end a xs = take-all (length xs - a) (drop a xs) (omega (arith, length-drop a xs))
-
-  -- the first element apart
-  pub part-cons : (a b : ℕ) (xs : List A) (d : A) → a < b → b ≤ length xs → part a b xs ≡ getD xs a d ∷ part (suc a) b xs
-  part-cons a b xs d h k = let e : b - a ≡ suc (b - suc a) = omega arith in rw (e, drop-cons xs a d (omega arith))
-
-  -- two parts that meet
-  pub part-append : (a b c : ℕ) (xs : List A) → a ≤ b → b ≤ c → part a b xs ++ part b c xs ≡ part a c xs
-  part-append a b c xs h k =
-      let e : (b - a) + (c - b) ≡ c - a = omega arith in
-      let e′ : a + (b - a) ≡ b = omega arith in
-      rw (← e, take-add, drop-drop, e′)
-
-  -- a part between two others
-  pub part-between : (h a z : List A) (p q : ℕ) → p ≡ length h → q ≡ length h + length a → part p q (h ++ (a ++ z)) ≡ a
-  part-between h a z p q ep eq = rw (drop-at h (a ++ z) p (sym ep)) (take-at a z (q - p) (omega arith))
 
   -- ---- reverse
 
@@ -121,17 +103,6 @@ module _ {A : Type 0} where
       go ih (no k) =
           let e : length (x ∷ xs) - 1 - i ≡ 0 = omega arith in
           rw (reverse-cons, e) (getD-at (reverse xs) x [] d i (rw length-reverse (omega arith)))
-
-  -- the front of a list reversed is its end reversed
-  pub take-reverse : (k : ℕ) (xs : List A) → k ≤ length xs → take k (reverse xs) ≡ reverse (drop (length xs - k) xs)
-  take-reverse k xs h =
-      ap (λ (l : List A). take k (reverse l)) (sym (take-append-drop (length xs - k) xs))
-      ∙ rw (reverse-append) (take-at (reverse (drop (length xs - k) xs)) _ k (simp (length-reverse, length-drop) (omega arith)))
-
-  pub drop-reverse : (k : ℕ) (xs : List A) → k ≤ length xs → drop k (reverse xs) ≡ reverse (take (length xs - k) xs)
-  drop-reverse k xs h =
-      ap (λ (l : List A). drop k (reverse l)) (sym (take-append-drop (length xs - k) xs))
-      ∙ rw (reverse-append) (drop-at (reverse (drop (length xs - k) xs)) _ k (simp (length-reverse, length-drop) (omega arith)))
 
   -- ---- change
 
@@ -320,17 +291,6 @@ getD-position x (y ∷ ys) h = go (eqb x y) refl (getD-position x ys) h
 -- two numbers do not share a place
 pub position-apart : (x y : ℕ) (xs : List ℕ) → member x xs ≡ true → member y xs ≡ true → x ≢ y → position x xs ≢ position y xs
 position-apart x y xs hx hy ne e = ne (sym (getD-position x xs hx) ∙ rw e (getD-position y xs hy))
-
--- no earlier place has it
-pub position-first : (x : ℕ) (xs : List ℕ) (i : ℕ) → i < position x xs → getD xs i 0 ≢ x
-position-first x [] i h = absurd (omega arith)
-position-first x (y ∷ ys) i h = go (eqb x y) refl i (position-first x ys) h
-  where
-    go : (t : Bool) → eqb x y ≡ t → (i : ℕ) → ((i : ℕ) → i < position x ys → getD ys i 0 ≢ x) → i < cond t 0 (suc (position x ys))
-        → getD (y ∷ ys) i 0 ≢ x
-    go true e i ih k = absurd (omega arith)
-    go false e zero ih k = λ q. eqb-false x y e (sym q)
-    go false e (suc i) ih k = ih i (le-of-suc-le-suc k)
 
 pub position-once : (xs : List ℕ) (i : ℕ) → Once xs → i < length xs → position (getD xs i 0) xs ≡ i
 position-once xs i o h =

@@ -11,7 +11,7 @@ use lib.ListN.{length, getD}
 use borrow.Author.Tests.{ltb-true, ltb-false, lt-ltb}
 use Rattle.model.specs.Lists.{concat, member, position, count, Once}
 use Rattle.model.specs.Plan.{Plan, routeOf, vehicleOf, isPlaced}
-use Rattle.model.proofs.Lists.{member-append, member-at, member-count, count-member, absent-count, count-absent, count-append, position-lt, position-of}
+use Rattle.model.proofs.Lists.{member-append, member-at, member-count, count-member, count-append, position-lt, position-of}
 use Rattle.model.proofs.Counts.{count-route, once-route}
 
 located-is : (s : ℕ) (P : Plan) → isPlaced s P ≡ ltb (vehicleOf s P) (length P)
@@ -64,9 +64,6 @@ module _ (s : ℕ) (P : Plan) (on : isPlaced s P ≡ true) where
 -- and one that is not
 pub vehicle-none : (s : ℕ) (P : Plan) → isPlaced s P ≡ false → vehicleOf s P ≡ length P
 vehicle-none s P off = omega (arith, ltb-false (vehicleOf s P) (length P) (sym (located-is s P) ∙ off), vehicle-le s P)
-
-pub route-none : (s : ℕ) (P : Plan) (k : ℕ) → isPlaced s P ≡ false → member s (routeOf P k) ≡ false
-route-none s P k off = count-absent s (routeOf P k) (omega (arith, count-route s P k, absent-count s (concat P) off))
 
 -- what is on a route is placed
 pub route-placed : (s : ℕ) (P : Plan) (k : ℕ) → member s (routeOf P k) ≡ true → isPlaced s P ≡ true

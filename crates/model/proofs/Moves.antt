@@ -11,12 +11,12 @@ use lib.ListN.{length, take}
 use borrow.Author.Tests.{ltb-true, ltb-false, eqb-true, eqb-false}
 use Rattle.model.specs.Lists.{concat, pairs, forEach, member, position, count, Once}
 use Rattle.model.specs.Job.{Job}
-use Rattle.model.specs.Plan.{Plan, Route, routeOf, placed, vehicleOf, isPlaced}
+use Rattle.model.specs.Plan.{Plan, Route, routeOf, vehicleOf, isPlaced}
 use Rattle.model.specs.Cost.{cost}
 use Rattle.model.specs.Nearest.{neighbours}
 use Rattle.model.specs.TwoOpt.{cheapest, setRoute, endsExchanged, inverted, intra, turned, straight, exchanged, twoBits, offset, interCandidates, inter, twoOptOn, twoOpt, twoOptAll, twoOptPass}
 use Rattle.model.proofs.Lists.{one-same, count-append, position-apart, length-change}
-use Rattle.model.proofs.Counts.{count-reverse, count-take-drop, count-split, count-change, count-routes, once-kept, once-take, length-kept}
+use Rattle.model.proofs.Counts.{count-reverse, count-take-drop, count-split, count-change, count-routes, once-kept, once-take}
 use Rattle.model.proofs.Locate.{vehicle-lt, vehicle-has}
 use Rattle.model.proofs.Nearest.{once-neighbours}
 
@@ -89,9 +89,6 @@ moved-again P X Y a b = record { routes = b .routes ∙ a .routes; stops = λ x.
 module _ (P X : Plan) (m : Moved P X) where
   pub moved-once : Once (concat P) → Once (concat X)
   moved-once o = once-kept (concat X) (concat P) (m .stops) o
-
-  pub moved-placed : placed X ≡ placed P
-  moved-placed = length-kept (concat X) (concat P) (m .stops)
 
 -- a route that is put in order anew
 pub moved-route : (k : ℕ) (r : Route) (P : Plan) → k < length P → ((x : ℕ) → count x r ≡ count x (routeOf P k)) → Moved P (setRoute k r P)

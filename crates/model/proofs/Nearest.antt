@@ -1,18 +1,15 @@
 -- The stops by distance: sorting moves them and loses none, and S(x) has each stop once. Assumes nothing.
 use Prim.Native.Nat.{ℕ, _+_, _<_}
 use native.Mathlib.Omega.{arith}
-use native.Mathlib.Decide.{decLt}
 use mathlib.Core.Path.{_≡_, refl, _∙_}
-use mathlib.Core.Logic.{inr}
 use mathlib.Core.Bool.{Bool, true, false, cond}
 use mathlib.Core.List.{List, [], _∷_}
 use lib.Dec.{eqb}
-use lib.ListN.{length}
 use Rattle.model.specs.Lists.{upFrom, member, without, count, Once}
 use Rattle.model.specs.Job.{Job, stopCount, locationOf}
 use Rattle.model.specs.Nearest.{before, insert, sort, neighbours}
-use Rattle.model.proofs.Lists.{count-member, count-without, length-upFrom, count-upFrom, count-upFrom-out, once-upFrom}
-use Rattle.model.proofs.Counts.{Below, length-kept, once-front}
+use Rattle.model.proofs.Lists.{count-member, count-without, count-upFrom, once-upFrom}
+use Rattle.model.proofs.Counts.{once-front}
 
 module _ (J : Job) (from : ℕ) where
   pub count-insert : (x s : ℕ) (ts : List ℕ) → count x (insert J from s ts) ≡ count x (s ∷ ts)
@@ -41,16 +38,6 @@ module _ (J : Job) (x : ℕ) where
       count-member x (upFrom 0 (stopCount J)) (omega (arith, count-upFrom x 0 (stopCount J) (omega arith) (omega arith)))
       in
       omega (arith, count-neighbours y, count-without x y (upFrom 0 (stopCount J)) m)
-
-  pub length-neighbours : x < stopCount J → length (neighbours J x) ≡ stopCount J
-  length-neighbours h = length-kept (neighbours J x) (upFrom 0 (stopCount J)) (neighbours-all h) ∙ length-upFrom 0 (stopCount J)
-
-  pub neighbours-below : x < stopCount J → Below (stopCount J) (neighbours J x)
-  neighbours-below h s k = go (decLt s (stopCount J))
-    where
-      go : Dec (s < stopCount J) → s < stopCount J
-      go (yes l) = l
-      go (no l) = absurd (omega (arith, neighbours-all h s, count-upFrom-out s 0 (stopCount J) (inr (omega arith))))
 
   -- none twice, whatever x is
   pub once-neighbours : Once (neighbours J x)

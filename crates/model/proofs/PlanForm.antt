@@ -6,13 +6,13 @@ use mathlib.Core.Path.{_≡_, refl, sym, ap, _∙_}
 use mathlib.Core.Bool.{true, and-eq-true-iff}
 use mathlib.Core.List.{List, [], _∷_, _++_, map, append-assoc}
 use lib.Dec.{leb}
-use lib.ListN.{length, getD, take, drop, replicate, length-append, length-replicate, length-map, length-drop, length-take, take-append-drop, List·getD-append}
+use lib.ListN.{length, getD, take, drop, replicate, length-append, length-replicate, length-map, length-drop, length-take, take-append-drop}
 use lib.Seq.{take-append-seam, drop-append-seam, take-at, drop-at, take-add, take-take, take-append-le, drop-drop, getD-take, length-take-le, take-all}
 use borrow.Author.Tests.{leb-true, le-leb}
 use Rattle.model.specs.Lists.{sum, concat, part, count, Once, allBelow, allOnce}
 use Rattle.model.specs.Plan.{Plan, routeOf, placed, unused, encode, cut, decode, usedPart, unusedPart, isForm, isPlan, Lent}
-use Rattle.model.proofs.Lists.{sum-upto, sum-lengths, getD-lengths, map-take, length-part, getD-part}
-use Rattle.model.proofs.Counts.{Below, once-few, count-route, below-at, allOnce-once, once-allOnce, allBelow-below, below-allBelow, same-equal, equal-same}
+use Rattle.model.proofs.Lists.{sum-upto, sum-lengths, map-take, length-part}
+use Rattle.model.proofs.Counts.{Below, once-few, allOnce-once, once-allOnce, allBelow-below, below-allBelow, same-equal, equal-same}
 
 -- ---- cut
 
@@ -67,12 +67,6 @@ module _ (n : ℕ) (P : Plan) where
       let h′ : k ≤ length (map length P) = rw length-map h in
       rw (take-append-le k (map length P) _ h′, ← map-take) (sum-lengths (take k P))
 
-  pub encode-size : (k : ℕ) → k < length P → getD (encode n P) k 0 ≡ length (routeOf P k)
-  unfolding encode
-  encode-size k h =
-      let h′ : k < length (map length P) = rw length-map h in
-      rw (List·getD-append (map length P) _ 0 k h′) (getD-lengths P k)
-
 -- two plans of as many routes are told apart by their lent forms
 pub encode-injective : (n : ℕ) (P Q : Plan) → length P ≡ length Q → encode n P ≡ encode n Q → P ≡ Q
 encode-injective n P Q l e = sym (decode-encode n P (length P) refl) ∙ rw e (decode-encode n Q (length P) (sym l))
@@ -96,12 +90,6 @@ module _ (v : ℕ) (xs : List ℕ) (h : v ≤ length xs) where
       let l : length (take v xs) ≡ v = length-take-le v xs h in
       let g′ : k ≤ v = omega arith in
       rw (add-sub-cancel-left, e) (cut-at (take v xs) (drop v xs) k (omega arith) ∙ simp (getD-take, take-take, drop-drop))
-
-  -- and its stops stand there
-  pub route-stop : (k i : ℕ) → k < v → i < getD xs k 0 → getD (routeOf (decode v xs) k) i 0 ≡ getD xs (v + sum (take k xs) + i) 0
-  route-stop k i g j =
-      let at : ℕ = v + sum (take k xs) in
-      ap (λ (r : List ℕ). getD r i 0) (route-part k at g refl) ∙ getD-part at (at + getD xs k 0) xs i 0 (omega arith)
 
 module _ (v n : ℕ) (xs : List ℕ) (long : length xs ≡ v + n) (fits : sum (take v xs) ≤ n) where
   pub placed-decode : placed (decode v xs) ≡ sum (take v xs)
@@ -158,9 +146,6 @@ module _ (v n : ℕ) (xs : List ℕ) (long : length xs ≡ v + n) where
         rest = same-equal (unusedPart v xs) (replicate (n - sum (take v xs)) unused) (q .1);
       }
 
-  pub encode-decode : isForm v n xs ≡ true → encode n (decode v xs) ≡ xs
-  encode-decode h = let f = formed h in sym (form-kept v n xs long (f .fits) (f .rest))
-
   pub isPlan-lent : isPlan v n xs ≡ true → Lent v n xs
   unfolding isPlan
   isPlan-lent h =
@@ -193,10 +178,6 @@ module _ (v n : ℕ) (xs : List ℕ) (p : Lent v n xs) where
 
   pub lent-placed : placed (decode v xs) ≤ n
   lent-placed = omega (arith, placed-decode v n xs (p .long) (p .fits), p .fits)
-
-  -- the stops of a route are below n
-  pub lent-stop : (k i : ℕ) → i < length (routeOf (decode v xs) k) → getD (routeOf (decode v xs) k) i 0 < n
-  lent-stop k i h = below-at n (routeOf (decode v xs) k) i (λ s g. p .below s (omega (arith, count-route s (decode v xs) k))) h
 
 -- a plan, written down, is lent
 pub lent-encode : (v n : ℕ) (P : Plan) → length P ≡ v → Once (concat P) → Below n (concat P) → Lent v n (encode n P)

@@ -10,10 +10,10 @@ use Rattle.model.specs.Job.{Job, jobOf}
 use Rattle.model.specs.Plan.{Plan}
 use Rattle.model.specs.Nearest.{neighbours, startPlan}
 use Rattle.model.specs.TwoOpt.{twoOpt}
-use Rattle.model.specs.Region.{Region, regions}
+use Rattle.model.specs.Region.{regions}
 use Rattle.model.specs.Rebuild.{rebuild, exhaustive, pruned}
 use Rattle.model.specs.Settle.{averaged, settles, noAverages}
-use Rattle.model.specs.Run.{Task, Round, roundFrom, startState}
+use Rattle.model.specs.Run.{Task, roundFrom, startState}
 use Rattle.model.specs.Refusals.{Weigh, TwoOpt, asking, refusal}
 use Rattle.model.specs.Calls.{planLeft}
 use Rattle.model.specs.Sums.{jobA}

@@ -3,7 +3,7 @@ use Prim.Native.Nat.{ℕ, _≤_, _<_}
 use native.Mathlib.Omega.{arith}
 use mathlib.Core.Path.{_≡_, refl, sym, _∙_}
 use mathlib.Core.Logic.{inl, inr}
-use mathlib.Core.Bool.{Bool, true, false, cond, _||_, true≢false}
+use mathlib.Core.Bool.{Bool, true, false, cond, true≢false}
 use mathlib.Core.List.{List, [], _∷_, map}
 use lib.Dec.{eqb}
 use lib.ListN.{length}

@@ -24,4 +24,5 @@ sums =
       fresh = refl;
       oneRegion = refl;
       twoRegions = refl;
+      threeVehicles = refl;
     }

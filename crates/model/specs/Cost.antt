@@ -1,6 +1,6 @@
 -- 01, "Cost": a whole number. Calls hand it out as the f64 of the same value.
-use Prim.Native.Nat.{ℕ, zero, suc, _+_, _-_, _*_}
-use mathlib.Core.List.{List, [], _∷_}
+use Prim.Native.Nat.{ℕ, suc, _+_, _-_, _*_}
+use mathlib.Core.List.{[], _∷_}
 use Rattle.model.specs.declared.Prices.{Prices}
 use Rattle.model.specs.Job.{Job, stopCount, startOf, endOf, locationOf, distance}
 use Rattle.model.specs.Plan.{Plan, Route, placed}

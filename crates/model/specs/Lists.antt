@@ -3,7 +3,7 @@ use Prim.Native.Nat.{ℕ, zero, suc, _+_, _-_, _≤_, max}
 use mathlib.Core.Bool.{Bool, true, false, cond, _||_, not, _&&_}
 use mathlib.Core.List.{List, [], _∷_, _++_, map}
 use lib.Dec.{eqb, ltb}
-use lib.ListN.{length, take, drop}
+use lib.ListN.{take, drop}
 
 -- all numbers of a list added up
 abbrev pub sum : List ℕ → ℕ

@@ -1,11 +1,11 @@
 -- 01, "The plan": a route for each vehicle, and a route is the stops in order. `encode` is the form in which a plan is lent.
 use mathlib.Core.Path.{_≡_}
-use Prim.Native.Nat.{ℕ, zero, suc, _+_, _-_, _≤_, _<_}
-use mathlib.Core.Bool.{Bool, true, false, cond, _&&_, not}
+use Prim.Native.Nat.{ℕ, suc, _+_, _-_, _≤_, _<_}
+use mathlib.Core.Bool.{Bool, cond, _&&_}
 use mathlib.Core.List.{List, [], _∷_, _++_, map}
-use lib.Dec.{leb, ltb, eqb}
+use lib.Dec.{leb}
 use lib.ListN.{length, take, drop, replicate, getD}
-use Rattle.model.specs.Lists.{sum, concat, member, position, count, Once, allBelow, allOnce, same}
+use Rattle.model.specs.Lists.{sum, concat, member, count, Once, allBelow, allOnce, same}
 
 abbrev pub Route : Type 0
 Route = List ℕ

@@ -2,7 +2,7 @@
 -- It is one claim about the whole list of rounds, the answer and the plan that is left.
 use mathlib.Core.Path.{_≡_}
 use Prim.Native.Nat.{ℕ, suc, _+_, _*_, _≤_, _<_}
-use mathlib.Core.Bool.{Bool, true, false}
+use mathlib.Core.Bool.{false}
 use mathlib.Core.List.{List, [], _∷_, map}
 use lib.ListN.{length, getD}
 use Rattle.model.specs.declared.Totals.{Totals}

@@ -1,13 +1,13 @@
 -- 01, "One round", the rebuild, and both exhaustive solvers: every arrangement of some stops in some gaps of a plan, and the one that is kept.
 use mathlib.Core.Path.{_≡_}
-use Prim.Native.Nat.{ℕ, zero, suc, _+_, _-_, _≤_}
-use mathlib.Core.Bool.{Bool, true, false, cond, _&&_, _||_, not}
+use Prim.Native.Nat.{ℕ, zero, suc, _≤_}
+use mathlib.Core.Bool.{Bool, cond, _&&_, _||_}
 use mathlib.Core.List.{List, [], _∷_, _++_, map}
 use lib.Dec.{eqb, ltb}
 use lib.ListN.{length, take, drop, replicate}
 use Rattle.model.specs.Lists.{upFrom, without, change, concat, lower, forEach, count, Once}
 use Rattle.model.specs.Job.{Job, stopCount, vehicleCount}
-use Rattle.model.specs.Plan.{Plan, Route, routeOf, placed, encode}
+use Rattle.model.specs.Plan.{Plan, placed, encode}
 use Rattle.model.specs.Cost.{cost, drivingCost}
 use Rattle.model.specs.Region.{Region, regions, drained}
 

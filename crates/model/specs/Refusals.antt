@@ -1,7 +1,7 @@
 -- 01, "Who can stop a call": the condition of each number, one table with the order in which they are tested, and which calls test which.
 -- (14 is found while reading a file: see File.)
 use Prim.Native.Nat.{ℕ, _+_, _*_, _%_}
-use mathlib.Core.Bool.{Bool, true, false, cond, _&&_, _||_, not}
+use mathlib.Core.Bool.{Bool, cond, _&&_, _||_, not}
 use mathlib.Core.List.{List, [], _∷_}
 use lib.Dec.{eqb, ltb, leb}
 use lib.ListN.{length}

@@ -1,11 +1,10 @@
 -- 01, "One round", the region pass: which stretches of which routes are drained.
-use Prim.Native.Nat.{ℕ, zero, suc, _+_, _-_, _/_, min}
-use mathlib.Core.Bool.{Bool, true, false, cond}
-use mathlib.Core.List.{List, [], _∷_, _++_, map}
-use lib.Dec.{eqb}
-use lib.ListN.{length, take, drop}
-use Rattle.model.specs.Lists.{part, position, member, change, concat}
-use Rattle.model.specs.Plan.{Plan, Route, routeOf, vehicleOf, isPlaced}
+use Prim.Native.Nat.{ℕ, _+_, _-_, _/_, min}
+use mathlib.Core.Bool.{cond}
+use mathlib.Core.List.{List, [], _∷_, map}
+use lib.ListN.{length}
+use Rattle.model.specs.Lists.{part, position, member, concat}
+use Rattle.model.specs.Plan.{Plan, routeOf, vehicleOf, isPlaced}
 
 -- the stops of route `vehicle` from `from` up to `to`, without `to`
 pub record Region : Type 0 where

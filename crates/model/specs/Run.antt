@@ -1,11 +1,11 @@
 -- 01, "One round" and "Settling": a run is the list of its rounds, from the start plan up to the end rule.
 use Prim.Native.Nat.{ℕ, zero, suc, _+_, _-_, _%_}
-use mathlib.Core.Bool.{Bool, true, false, cond, _||_}
+use mathlib.Core.Bool.{Bool, true, false, cond}
 use mathlib.Core.List.{List, [], _∷_}
 use lib.Dec.{eqb, ltb}
 use lib.ListN.{length, getD}
 use Rattle.model.specs.Lists.{without}
-use Rattle.model.specs.Job.{Job, vehicleCount, stopCount}
+use Rattle.model.specs.Job.{Job, stopCount}
 use Rattle.model.specs.Plan.{Plan}
 use Rattle.model.specs.Cost.{cost}
 use Rattle.model.specs.Nearest.{neighbours, startPlan}

@@ -1,6 +1,6 @@
 -- 01, "Settling": the two averages, rounded operation by operation, and the stopping rule.
 use Prim.Native.Nat.{ℕ, _-_}
-use mathlib.Core.Bool.{Bool, true, false, cond, _&&_}
+use mathlib.Core.Bool.{Bool, false, cond, _&&_}
 use lib.Dec.{leb, ltb}
 use lib.IntN.{pos}
 use lib.Ieee as Ieee

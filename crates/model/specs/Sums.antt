@@ -1,7 +1,7 @@
 -- 01, "Sums to prove together": the marked rows, as one group.
 use mathlib.Core.Path.{_≡_}
 use Prim.Native.Nat.{ℕ}
-use mathlib.Core.List.{List, [], _∷_}
+use mathlib.Core.List.{[], _∷_}
 use lib.ListN.{length}
 use Rattle.model.specs.Lists.{upFrom}
 use Rattle.model.specs.Job.{Job}
@@ -39,3 +39,4 @@ pub record Sums : Type 0 where
   pub fresh : average 4 (whole 0) (whole 5) ≡ whole 5
   pub oneRegion : length (fillings 1 (upFrom 0 7)) ≡ 13700
   pub twoRegions : length (fillings 2 (upFrom 0 6)) ≡ 11743
+  pub threeVehicles : length (fillings 3 (upFrom 0 6)) ≡ 42079
