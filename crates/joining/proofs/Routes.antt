@@ -1,4 +1,4 @@
--- Plans with routes replaced, in the lent form. Assumes nothing.
+-- Plans with routes replaced, in the lent form.
 use Prim.Native.Nat.{ℕ, zero, suc, _+_, _-_, _<_, _≤_, zero-le}
 use native.Mathlib.Omega.{arith}
 use native.Mathlib.Nat.{add-zero, sub-zero, zero-sub, suc-sub-suc}

@@ -1,4 +1,4 @@
--- Laws of `put`, and of the loops that copy. Assumes nothing.
+-- Laws of `put`, and of the loops that copy.
 use Prim.Native.Nat.{ℕ, _+_, _-_, _<_, _≤_, zero-le}
 use native.Mathlib.Omega.{arith}
 use native.Mathlib.Numerals.{add-one}

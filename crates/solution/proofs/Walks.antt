@@ -1,5 +1,4 @@
 -- One turn of each loop of the crate: what a definition says of the list from place i on, said by what stands at i and the list from i + 1 on.
--- Assumes nothing.
 use Prim.Native.Nat.{ℕ, _+_, _<_}
 use native.Mathlib.Omega.{arith}
 use native.Mathlib.Numerals.{add-one}
