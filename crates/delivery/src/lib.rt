@@ -44,7 +44,7 @@ pub fn driving_cost(legs: &[u32], v: usize, n: usize, prices: Prices, plan: &[u3
 }
 
 // How many of the n stops are on no route: the ones of the set of the placed stops are counted.
-pub fn missed(v: usize, n: usize, plan: &[u32]) -> u32
+fn missed(v: usize, n: usize, plan: &[u32]) -> u32
     requires { ⌜ Sizes v n × Lent v n (now plan) ⌝ }
     ensures { λ r. ⌜ r ≡ n - placed (decode v (now (plan .entry))) ⌝ }
 {

@@ -1,5 +1,5 @@
 -- Laws of the ways over a leg table: parts of a route and the legs that join them, a way gone backwards, the upper bound, and the job's own lengths.
-use mathlib.Core.Path.{_≡_, refl, ap, ap₂, _∙_, subst}
+use mathlib.Core.Path.{_≡_, refl, ap, ap₂, _∙_}
 use Prim.Native.Nat.{ℕ, _+_, _-_, _*_, _≤_, _<_}
 use native.Mathlib.Omega.{arith}
 use native.Mathlib.Numerals.{add-one}
@@ -115,10 +115,6 @@ module _ (t : List ℕ) (a : ℕ) (r : Route) (i : ℕ) (h : i < length r) where
   unfolding walked
   walked-more = rw (add-one, take-suc r i 0, walked-append) (omega arith)
 
-  pub back-more : walkedBack t a (take (i + 1) r) ≡ walkedBack t a (take i r) + legAt t (getD r i 0) (lastPlace a (take i r))
-  unfolding walkedBack
-  back-more = rw (add-one, take-suc r i 0, back-append) (omega arith)
-
 -- the way from the stop at i on
 module _ (t : List ℕ) (here : ℕ) (r : Route) (to i : ℕ) where
   pub onward : i < length r → tableLegs t here (drop i r) to ≡ legAt t here (getD r i 0) + tableLegs t (getD r i 0) (drop (i + 1) r) to
@@ -156,9 +152,6 @@ module _ (J : Job) (t : List ℕ) (v n : ℕ) (p : Prices) (F : Fits J t v n p) 
       way-legs (depot k) r (depot k) (depot-place k h) (depot-place k h) N S
       ∙ ap₂ (λ (x y : ℕ). legs J x r y) (leaves-vehicle J (depot k) (omega arith) ∙ ap (startOf J) (omega arith))
       (reaches-vehicle J (depot k) (omega arith) ∙ ap (endOf J) (omega arith))
-
-  pub route-small : LegTable t → (k : ℕ) (r : Route) → k < v → Below n r → Below 64 r → routeLength J k r ≤ (length r + 1) * 200000
-  route-small h k r K N S = subst (λ (d : ℕ). d ≤ (length r + 1) * 200000) (way-route k r K N S) (way-small t h (depot k) r (depot k))
 
 -- what `route_length` ensures, from the way over the table
 pub route-length-is : (t : List ℕ) (k : ℕ) (r : Route) (d : ℕ) → LegTable t → Drivable r

@@ -1,6 +1,6 @@
 // Distances: the job's own table, the leg table that a run looks up once, and the length of a route over it.
 ghost use mathlib.Core.Path.{_≡_};
-ghost use Prim.Native.Nat.{_+_, _*_, _/_, _≤_, _<_};
+ghost use Prim.Native.Nat.{_/_, _≤_, _<_};
 ghost use lib.ListN.{length};
 ghost use mathlib.Core.Bool.{true};
 ghost use Rattle.model.specs.Job.{Job, jobOf, entry};
@@ -10,7 +10,7 @@ ghost use Rattle.distance.specs.Table.{Square, InLimits, isPlace, cell, 
 ghost use Rattle.distance.specs.Ways.{Drivable, RouteLength};
 
 // The metres from one location to another. No other function reads the job's own table.
-pub fn lookup(locations: u32, distances: &[u32], from: u32, to: u32) -> u32
+fn lookup(locations: u32, distances: &[u32], from: u32, to: u32) -> u32
     requires { ⌜ Square locations (now distances) × (from < locations) × (to < locations) ⌝ }
     ensures { λ r. ⌜ r ≡ entry (now (distances .entry)) locations from to ⌝ }
 {

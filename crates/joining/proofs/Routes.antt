@@ -1,4 +1,4 @@
--- Plans with routes replaced, in the lent form. Assumes nothing.
+-- Plans with routes replaced, in the lent form.
 use Prim.Native.Nat.{ℕ, zero, suc, _+_, _-_, _<_, _≤_, zero-le}
 use native.Mathlib.Omega.{arith}
 use native.Mathlib.Nat.{add-zero, sub-zero, zero-sub, suc-sub-suc}
@@ -9,7 +9,7 @@ use lib.Seq.{take-nil, drop-drop, set-split, take-set-lt, drop-set-lt, take-take
 use Rattle.model.specs.Lists.{sum, concat, part}
 use Rattle.model.specs.Plan.{Plan, Route, encode, cut, decode, placed, Lent}
 use Rattle.model.specs.TwoOpt.{setRoute}
-use Rattle.model.proofs.Counts.{placed-change, placed-routes}
+use Rattle.model.proofs.Counts.{placed-routes}
 use Rattle.pasting.proofs.Put.{lent-rest, area-front}
 use Rattle.model.proofs.Lists.{sum-more, sum-upto, sum-append, take-part, part-end, length-part, concat-append, change-to, map-change}
 use Rattle.pasting.specs.Put.{put, areaOf}

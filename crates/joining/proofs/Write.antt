@@ -1,4 +1,4 @@
--- The plan with no stop on any route, as the code writes it. Assumes nothing.
+-- The plan with no stop on any route, as the code writes it.
 use Prim.Native.Nat.{ℕ, zero, suc, _+_, _-_}
 use native.Mathlib.Omega.{arith}
 use native.Mathlib.Nat.{sub-zero}

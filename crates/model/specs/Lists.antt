@@ -33,6 +33,10 @@ module _ {A B : Type 0} where
   forEach [] f = []
   forEach (x ∷ xs) f = f x ++ forEach xs f
 
+-- a list of lists with x at the end of the one at k
+abbrev pub withLast : {A : Type 0} → ℕ → A → List (List A) → List (List A)
+withLast k x xss = change k (λ xs. xs ++ (x ∷ [])) xss
+
 -- xs from a up to b, without b
 abbrev pub part : {A : Type 0} → ℕ → ℕ → List A → List A
 part a b xs = take (b - a) (drop a xs)

@@ -5,7 +5,7 @@ use mathlib.Core.Bool.{Bool, cond, _&&_, _||_}
 use mathlib.Core.List.{List, [], _∷_, _++_, map}
 use lib.Dec.{eqb, ltb}
 use lib.ListN.{length, take, drop, replicate}
-use Rattle.model.specs.Lists.{upFrom, without, change, concat, lower, forEach, count, Once}
+use Rattle.model.specs.Lists.{upFrom, without, change, withLast, concat, lower, forEach, count, Once}
 use Rattle.model.specs.Job.{Job, stopCount, vehicleCount}
 use Rattle.model.specs.Plan.{Plan, placed, encode}
 use Rattle.model.specs.Cost.{cost, drivingCost}
@@ -86,7 +86,7 @@ exhaustive J = choose J (emptyPlan J) (allArrangements J)
 unfoldable pub appended : Job → Plan → List ℕ → List (Plan × List ℕ)
 appended J P left =
     forEach left λ s. forEach (upFrom 0 (vehicleCount J)) λ k.
-    let Q = change k (λ r. r ++ (s ∷ [])) P in
+    let Q = withLast k s P in
     cond (ltb (drivingCost J Q) (cost J P)) ((Q, without s left) ∷ []) []
 
 -- the plans reached from P by at most m such steps

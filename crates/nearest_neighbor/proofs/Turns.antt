@@ -9,17 +9,16 @@ use native.Mathlib.Decide.{decLt}
 use native.Mathlib.Omega.{arith}
 use lib.Dec.{eqb}
 use lib.ListN.{length, replicate, length-replicate}
-use Rattle.model.specs.Lists.{concat, without, upFrom, count, Once}
+use Rattle.model.specs.Lists.{concat, without, withLast, upFrom, count, Once}
 use Rattle.model.specs.Job.{Job, vehicleCount, stopCount, startOf}
 use Rattle.model.specs.Plan.{Plan, routeOf}
 use Rattle.model.specs.Nearest.{lastLocation, nearest, takeTurns, startFor, startPlan}
 use Rattle.model.proofs.Lists.{count-append, count-member, length-without, count-without, length-change, length-upFrom, count-upFrom, count-upFrom-out, once-upFrom}
 use Rattle.model.proofs.Counts.{Below, count-change, concat-empty}
-use Rattle.nearest_neighbor.specs.Answers.{addStop}
 use Rattle.nearest_neighbor.proofs.Order.{nearest-in}
 
 -- a stop more at the end of route k
-pub count-added : (x k s : ℕ) (P : Plan) → k < length P → count x (concat (addStop k s P)) ≡ count x (concat P) + cond (eqb x s) 1 0
+pub count-added : (x k s : ℕ) (P : Plan) → k < length P → count x (concat (withLast k s P)) ≡ count x (concat P) + cond (eqb x s) 1 0
 count-added x k s P h = omega (arith, count-change x k (λ r. r ++ (s ∷ [])) P h, count-append x (routeOf P k) (s ∷ []))
 
 module _ (J : Job) where
@@ -39,13 +38,13 @@ module _ (J : Job) where
       let t = nearest J from (s ∷ ss) in
       let there = count-member t (s ∷ ss) (nearest-in J from s ss) in
       let few : length (without t (s ∷ ss)) ≡ m = omega (arith, length-without t (s ∷ ss) there) in
-      let many : length (addStop k t P) ≡ length P = length-change k _ P in
-      let next : suc k % vehicleCount J < length (addStop k t P) =
+      let many : length (withLast k t P) ≡ length P = length-change k _ P in
+      let next : suc k % vehicleCount J < length (withLast k t P) =
       subst (λ (v : ℕ). suc k % vehicleCount J < v) (sym (many ∙ l)) (mod-lt (suc k) (omega arith))
       in
       omega (
         arith,
-        turns-count x m (suc k % vehicleCount J) (without t (s ∷ ss)) (addStop k t P) few next (many ∙ l),
+        turns-count x m (suc k % vehicleCount J) (without t (s ∷ ss)) (withLast k t P) few next (many ∙ l),
         count-added x k t P h,
         count-without t x (s ∷ ss) there,
       )

@@ -1,4 +1,4 @@
--- Laws of `put`, and of the loops that copy. Assumes nothing.
+-- Laws of `put`, and of the loops that copy.
 use Prim.Native.Nat.{ℕ, _+_, _-_, _<_, _≤_, zero-le}
 use native.Mathlib.Omega.{arith}
 use native.Mathlib.Numerals.{add-one}
@@ -6,7 +6,7 @@ use native.Mathlib.Nat.{add-assoc, zero-add}
 use mathlib.Core.Path.{_≡_, sym, ap, _∙_}
 use mathlib.Core.List.{List, _++_, append-assoc, append-nil}
 use lib.ListN.{length, getD, take, drop, set, replicate, length-append, length-drop, drop-of-length-le}
-use lib.Seq.{paste, paste-suc, take-length, take-at, drop-at, drop-drop, length-take-le, drop-length, take-add}
+use lib.Seq.{paste, paste-suc, take-length, take-at, drop-at, drop-drop, length-take-le, drop-length}
 use Rattle.model.specs.Plan.{unused}
 use Rattle.model.proofs.Lists.{part-end}
 use Rattle.pasting.specs.Put.{put, areaOf}
@@ -69,11 +69,6 @@ pub lent-long : (v : ℕ) (xs ys : List ℕ) → v ≤ length xs → length ys �
 lent-long v xs ys h e =
     let l : length ys ≡ length (drop v xs) = rw part-end at e in
     rw lent-rest (omega (arith, length-append (take v xs) ys, length-take-le v xs h, length-drop v xs))
-
--- what is put at m into such a part is put at v + m into the whole
-pub lent : (v m : ℕ) (xs ys s : List ℕ) → ys ≡ put (take (length xs - v) (drop v xs)) m s
-    → take v xs ++ (ys ++ drop (length xs - v) (drop v xs)) ≡ put xs (v + m) s
-lent v m xs ys s e = rw (lent-rest, e, part-end, take-add v m xs, drop-drop) (simp (append-assoc, add-assoc))
 
 -- a fill that has reached the end
 pub filled : (d to : List ℕ) (i x : ℕ) → to ≡ replicate i x ++ drop i d → i ≡ length d → to ≡ replicate (length d) x

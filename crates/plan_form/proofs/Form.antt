@@ -1,4 +1,4 @@
--- The test of the plan form, in the order in which the code goes. Assumes nothing.
+-- The test of the plan form, in the order in which the code goes.
 use Prim.Native.Nat.{ℕ, _+_, _-_, _<_, _≤_}
 use native.Mathlib.Omega.{arith}
 use mathlib.Core.Path.{_≡_, refl, _∙_}

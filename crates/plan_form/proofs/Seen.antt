@@ -1,4 +1,4 @@
--- The test that no stop stands twice, by the set of those that were seen. Assumes nothing.
+-- The test that no stop stands twice, by the set of those that were seen.
 use Prim.Native.Nat.{ℕ, _+_, _<_, _≤_}
 use native.Mathlib.Nat.{zero-div}
 use mathlib.Core.Path.{_≡_, refl, sym}

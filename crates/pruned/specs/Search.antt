@@ -2,11 +2,12 @@
 use mathlib.Core.Path.{_≡_}
 use Prim.Native.Nat.{ℕ, _+_, _≤_}
 use mathlib.Core.Bool.{Bool, cond, _&&_, _||_}
-use mathlib.Core.List.{List, [], _∷_, _++_}
+use mathlib.Core.List.{List, []}
 use lib.Dec.{ltb, eqb}
 use lib.Ieee.{Float}
 use lib.ListN.{length}
-use Rattle.model.specs.Lists.{concat, change, lower, count, upFrom}
+use Rattle.model.specs.Lists.{concat, lower, count, upFrom}
+pub use Rattle.model.specs.Lists.{withLast}
 use Rattle.model.specs.Whole.{amount, IsWhole}
 use Rattle.model.specs.Job.{Job}
 use Rattle.model.specs.Plan.{Plan, placed, encode, decode, Lent, Sizes}
@@ -16,10 +17,6 @@ use Rattle.model.specs.Cost.{drivingCost}
 use Rattle.model.specs.Rebuild.{choose, reached}
 use Rattle.model.specs.declared.Prices.{Prices}
 use Rattle.delivery.specs.Costs.{Costs}
-
--- the plan with stop s put at the end of route k
-abbrev pub withLast : ℕ → ℕ → Plan → Plan
-withLast k s P = change k (λ r. r ++ (s ∷ [])) P
 
 -- what `better` says of two plans whose costs are a and b
 unfoldable pub preferred : ℕ → ℕ → Plan → ℕ → Plan → Bool

@@ -1,5 +1,5 @@
 -- The rounds of the code are those of the definition, and so is what the run answers and leaves.
-use mathlib.Core.Path.{_≡_, refl, sym, ap, ap₂, _∙_, subst}
+use mathlib.Core.Path.{_≡_, refl, sym, ap, ap₂, _∙_}
 use mathlib.Core.Bool.{Bool, true, false, not, _&&_, _||_, and-false}
 use mathlib.Core.List.{List, []}
 use Prim.Native.Nat.{ℕ, zero, suc, _+_, _-_, _≤_, _<_}
@@ -12,7 +12,7 @@ use lib.ListN.{length}
 use Rattle.model.specs.declared.Prices.{Prices}
 use Rattle.model.specs.declared.Totals.{Totals}
 use Rattle.model.specs.Whole.{whole}
-use Rattle.model.specs.Job.{Job, vehicleCount, stopCount}
+use Rattle.model.specs.Job.{Job}
 use Rattle.model.specs.Plan.{Plan, encode, decode}
 use Rattle.model.specs.Legs.{Fits}
 use Rattle.model.specs.Cost.{cost}

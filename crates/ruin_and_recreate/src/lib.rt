@@ -1,5 +1,4 @@
 // The run: rounds from the start plan up to the end rule.
-ghost use mathlib.Core.Path.{_≡_};
 ghost use Rattle.model.specs.Plan.{decode};
 ghost use Rattle.nearest_neighbor.specs.Answers.{Started};
 ghost use Rattle.run_round.specs.Standing.{Course, CostOf};

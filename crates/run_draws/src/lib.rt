@@ -6,7 +6,7 @@ ghost use Rattle.model.specs.Run as Run;
 ghost use Rattle.run_draws.specs.Picks.{Pickable, Picked};
 
 // The draw at a place; after the last comes the first again.
-pub fn drawn(draws: &[u32], place: usize) -> u32
+fn drawn(draws: &[u32], place: usize) -> u32
     requires { ⌜ 0 < length (now draws) ⌝ }
     ensures { λ r. ⌜ r ≡ Run.drawn (now (draws .entry)) place ⌝ }
 {

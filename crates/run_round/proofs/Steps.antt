@@ -1,6 +1,6 @@
 -- A round of the code is the definition's, for every job that fits.
 use mathlib.Core.Path.{_≡_, refl, sym, ap, ap₂, _∙_}
-use mathlib.Core.Bool.{Bool, true, false, cond}
+use mathlib.Core.Bool.{Bool, cond}
 use mathlib.Core.List.{List}
 use Prim.Native.Nat.{ℕ, suc, _+_, _-_, _*_, _%_, _≤_, _<_}
 use native.Mathlib.Nat.{mod-lt}
@@ -134,10 +134,10 @@ module _ (legs : List ℕ) (v n : ℕ) (prices : Prices) (near ds : List ℕ) (c
   pub row-lent : (x : ℕ) → x < n → Once (take (x * 64 + n - x * 64) (drop (x * 64) near))
   row-lent x h = rw (part-row x n near) (row-once legs n x near (K .rows x h))
 
-  module _ (xs part mid picks ps out : List ℕ) (x k : ℕ) (new : Float) (p r : Progress) (S : Standing legs v n prices xs p) where
+  module _ (xs part mid blank picks ps out : List ℕ) (x k : ℕ) (new : Float) (p r : Progress) (S : Standing legs v n prices xs p) where
     pub rounded : x ≡ drawn ds (p .place) % n → x < n → part ≡ rowOf n x near
         → ((J : Job) → Fits J legs v n prices → (y : ℕ) → part ≡ neighbours J y → mid ≡ encode n (twoOptPass J (decode v xs) y))
-        → Picked near n ds (p .place) k picks → ps ≡ take k picks → Rebuilt legs v n prices mid ps out new → Counted p new k c r
+        → Picked near n ds (p .place) blank k picks → ps ≡ take k picks → Rebuilt legs v n prices mid ps out new → Counted p new k c r
         → Rounded legs v n prices ds c xs p out r
     rounded ex hx er passes picked e rebuilt counted =
         record {

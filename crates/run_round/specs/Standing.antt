@@ -13,7 +13,7 @@ use Rattle.model.specs.Plan.{Plan, decode, Lent, Sizes}
 use Rattle.model.specs.Legs.{LegTable, Affordable, Fits}
 use Rattle.model.specs.Cost.{cost}
 use Rattle.model.specs.Settle.{averaged}
-use Rattle.model.specs.Run.{taskFor, Task, State, roundFrom}
+use Rattle.model.specs.Run.{taskFor, State, roundFrom}
 use Rattle.nearest_neighbor.specs.Answers.{Neighbours}
 use Rattle.run_round.specs.declared.Progress.{Progress}
 

@@ -17,7 +17,7 @@ pub fn none() -> Averages
 }
 
 // The moving average: the old one counts for all but one of `smoothing` parts, and the new value for one.
-pub fn average(old: f64, new: f64, smoothing: u32) -> f64
+fn average(old: f64, new: f64, smoothing: u32) -> f64
     requires { ⌜ 1 ≤ smoothing ⌝ }
     ensures { λ r. ⌜ r ≡ Settle.average smoothing old new ⌝ }
 {

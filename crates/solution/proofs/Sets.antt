@@ -1,4 +1,4 @@
--- The set of the stops of a list, one stop after another. Assumes nothing.
+-- The set of the stops of a list, one stop after another.
 use Prim.Native.Nat.{ℕ, suc, _+_, _^_, _<_}
 use native.Mathlib.Omega.{arith}
 use native.Mathlib.Numerals.{add-one}

@@ -1,6 +1,5 @@
 -- One turn of each loop of the crate: what a definition says of the list from place i on, said by what stands at i and the list from i + 1 on.
--- Assumes nothing.
-use Prim.Native.Nat.{ℕ, _+_, _-_, _≤_, _<_}
+use Prim.Native.Nat.{ℕ, _+_, _<_}
 use native.Mathlib.Omega.{arith}
 use native.Mathlib.Numerals.{add-one}
 use mathlib.Core.Path.{_≡_, sym}
@@ -49,18 +48,24 @@ module _ (xs ys : List ℕ) (i : ℕ) where
     pub lower-here : (getD xs i 0 ≡ getD ys i 0 → ⊥) → lower (drop i xs) (drop i ys) ≡ ltb (getD xs i 0) (getD ys i 0)
     lower-here e = rw (from-here xs i h, from-here ys i k, ne-eqb (getD xs i 0) (getD ys i 0) e)
 
--- ---- the first place of x, from the end of the list
+-- ---- the first place of x
 
-module _ (x : ℕ) (xs : List ℕ) where
-  pub position-end : (i : ℕ) → i ≡ length xs → i ≡ i + position x (drop i xs)
-  position-end i e = rw (from-end xs i e) (omega arith)
+module _ (x : ℕ) (xs : List ℕ) (i : ℕ) where
+  pub none-left : i ≡ length xs → position x (drop i xs) ≡ 0
+  none-left e = rw (from-end xs i e)
 
-  module _ (i : ℕ) (h : 0 < i) (k : i ≤ length xs) where
-    back : drop (i - 1) xs ≡ getD xs (i - 1) 0 ∷ drop i xs
-    back = let e : i - 1 + 1 ≡ i = omega arith in rw e at (from-here xs (i - 1) (omega arith))
+  pub position-end : i ≡ length xs → position x xs ≡ i + position x (drop i xs) → i ≡ position x xs
+  position-end e p = omega (arith, none-left e)
 
-    pub position-here : getD xs (i - 1) 0 ≡ x → i - 1 ≡ i - 1 + position x (drop (i - 1) xs)
-    position-here e = rw (back, eq-eqb x (getD xs (i - 1) 0) (sym e)) (omega arith)
+  module _ (h : i < length xs) where
+    pub at-once : getD xs i 0 ≡ x → position x (drop i xs) ≡ 0
+    at-once e = rw (from-here xs i h, eq-eqb x (getD xs i 0) (sym e))
 
-    pub position-more : (at : ℕ) → at ≡ i + position x (drop i xs) → (getD xs (i - 1) 0 ≡ x → ⊥) → at ≡ i - 1 + position x (drop (i - 1) xs)
-    position-more at p f = rw (back, ne-eqb x (getD xs (i - 1) 0) (λ e. f (sym e))) (omega arith)
+    pub later : (getD xs i 0 ≡ x → ⊥) → position x (drop i xs) ≡ 1 + position x (drop (i + 1) xs)
+    later f = rw (from-here xs i h, ne-eqb x (getD xs i 0) (λ e. f (sym e))) (omega arith)
+
+    pub position-here : getD xs i 0 ≡ x → position x xs ≡ i + position x (drop i xs) → i ≡ position x xs
+    position-here e p = omega (arith, at-once e)
+
+    pub position-more : (getD xs i 0 ≡ x → ⊥) → position x xs ≡ i + position x (drop i xs) → position x xs ≡ i + 1 + position x (drop (i + 1) xs)
+    position-more f p = omega (arith, later f)

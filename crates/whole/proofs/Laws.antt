@@ -4,12 +4,12 @@
 use mathlib.Core.Path.{_≡_, refl, sym, ap, ap₂, _∙_, subst}
 use Prim.Native.Nat.{ℕ, _+_, _-_, _*_, _≤_}
 use native.Mathlib.Omega.{arith}
-use lib.Dec.{T, ltb, leb, eqb, le→leb}
+use lib.Dec.{T, ltb, eqb, le→leb}
 use lib.IntN.{pos}
-use lib.Ieee.{Float, binary64, add, sub, mul, ofBits, lt, le, eq, ofInt, toUnsigned, inUnsigned, inFloat}
+use lib.Ieee.{Float, binary64, add, sub, mul, ofBits, lt, eq, ofInt, toUnsigned, inUnsigned, inFloat}
 use lib.Ieee.Back.{unsigned-back}
 use Rattle.model.specs.Whole.{whole, exact, amount, IsWhole}
-use Rattle.whole.proofs.Size.{is-whole, add-is, sub-is, mul-is, lt-is, le-is, eq-is}
+use Rattle.whole.proofs.Size.{is-whole, add-is, sub-is, mul-is, lt-is, eq-is}
 
 module _ (a b : ℕ) (A : a ≤ exact) (B : b ≤ exact) where
   pub add-whole : add binary64 (whole a) (whole b) ≡ whole (a + b)
@@ -23,9 +23,6 @@ module _ (a b : ℕ) (A : a ≤ exact) (B : b ≤ exact) where
 
   pub lt-whole : lt (whole a) (whole b) ≡ ltb a b
   lt-whole = lt-is (is-whole a A) (is-whole b B)
-
-  pub le-whole : le (whole a) (whole b) ≡ leb a b
-  le-whole = le-is (is-whole a A) (is-whole b B)
 
   pub eq-whole : eq (whole a) (whole b) ≡ eqb a b
   eq-whole = eq-is (is-whole a A) (is-whole b B)
@@ -49,9 +46,6 @@ in-unsigned n h = unsigned-back binary64 64 n (in-float n h) (omega arith) .0
 pub back-whole : (n : ℕ) → n ≤ exact → toUnsigned 64 (whole n) ≡ n
 back-whole n h = unsigned-back binary64 64 n (in-float n h) (omega arith) .1
 
-pub whole-injective : (a b : ℕ) → a ≤ exact → b ≤ exact → whole a ≡ whole b → a ≡ b
-whole-injective a b A B h = sym (back-whole a A) ∙ ap (toUnsigned 64) h ∙ back-whole b B
-
 -- ---- a value that is some whole number
 
 pub amount-is : (c : Float) (n : ℕ) → n ≤ exact → c ≡ whole n → amount c ≡ n
@@ -72,15 +66,6 @@ module _ (a b : Float) (h : IsWhole a) (k : IsWhole b) where
   lt-amount =
       ap₂ lt (sym (whole-amount a h)) (sym (whole-amount b k)) ∙ lt-whole (amount a) (amount b) (amount-small a h) (amount-small b k)
 
-  pub le-amount : le a b ≡ leb (amount a) (amount b)
-  le-amount =
-      ap₂ le (sym (whole-amount a h)) (sym (whole-amount b k)) ∙ le-whole (amount a) (amount b) (amount-small a h) (amount-small b k)
-
   pub eq-amount : eq a b ≡ eqb (amount a) (amount b)
   eq-amount =
       ap₂ eq (sym (whole-amount a h)) (sym (whole-amount b k)) ∙ eq-whole (amount a) (amount b) (amount-small a h) (amount-small b k)
-
-  pub sub-amount : amount b ≤ amount a → sub binary64 a b ≡ whole (amount a - amount b)
-  sub-amount l =
-      ap₂ (sub binary64) (sym (whole-amount a h)) (sym (whole-amount b k))
-      ∙ sub-whole (amount a) (amount b) (amount-small a h) (amount-small b k) l

@@ -1,19 +1,19 @@
 -- The operations of `f64` on values that are a whole number exactly: each is computed on fractions, and those are whole numbers in other terms.
-use mathlib.Core.Path.{_≡_, refl, sym, ap, ap₂, _∙_}
+use mathlib.Core.Path.{_≡_, refl, sym, ap, _∙_}
 use mathlib.Core.Logic.{_⊎_, inl, inr, ⊎-elim}
 use Prim.Native.Nat.{ℕ, _+_, _-_, _*_, _≤_, _<_}
 use native.Mathlib.Nat.{mul-one, add-mul, mul-comm, mul-assoc, mul-left-comm, mul-pos, mul-sub, mul-lt-mul-of-pos-right, mul-le-mul-right, eq-of-mul-eq-mul-right}
 use native.Mathlib.Omega.{arith}
-use mathlib.Core.Bool.{Bool, true, false, _&&_, _||_, cond, true≢false}
+use mathlib.Core.Bool.{Bool, true, false, _&&_, cond, true≢false}
 use native.Mathlib.Decide.{decLt, ℕ-discrete}
-use lib.Dec.{ltb, leb, eqb, lit<}
+use lib.Dec.{ltb, eqb, lit<}
 use lib.IntN.{ℤ}
-use lib.Ieee.{Float, fin, Format, binary64, up, down, round, sum, add, sub, mul, lt, le, eq, ofInt}
+use lib.Ieee.{Float, fin, Format, binary64, up, down, round, sum, add, sub, mul, lt, eq, ofInt}
 use lib.Ieee.Fits.{down-pos}
 use lib.Ieee.Exact.{HasValue}
 use lib.Ieee.Back.{round-whole}
 use lib.Ieee.Scale.{round-same}
-use borrow.Author.Tests.{lt-ltb, le-ltb, le-leb, lt-leb, eq-eqb, ne-eqb}
+use borrow.Author.Tests.{lt-ltb, le-ltb, eq-eqb, ne-eqb}
 use Rattle.model.specs.Whole.{whole, exact}
 
 -- ---- tests on numbers
@@ -27,16 +27,6 @@ lt-or-le a b = elim (decLt a b) [ yes h ↦ inl h | no h ↦ inr (omega arith) ]
 
 eq-or-ne : (a b : ℕ) → (a ≡ b) ⊎ (a ≡ b → ⊥)
 eq-or-ne a b = elim (ℕ-discrete a b) [ yes h ↦ inl h | no h ↦ inr h ]
-
-lt-or-eq : (a b : ℕ) → ltb a b || eqb a b ≡ leb a b
-lt-or-eq a b = ⊎-elim less (λ h. ap (λ (t : Bool). t || eqb a b) (le-ltb a b h) ∙ not-less h (eq-or-ne a b)) (lt-or-le a b)
-  where
-    less : a < b → ltb a b || eqb a b ≡ leb a b
-    less h = ap (λ (t : Bool). t || eqb a b) (lt-ltb a b h) ∙ sym (le-leb a b (omega arith))
-
-    not-less : b ≤ a → (a ≡ b) ⊎ (a ≡ b → ⊥) → eqb a b ≡ leb a b
-    not-less h (inl e) = eq-eqb a b e ∙ sym (le-leb a b (omega arith))
-    not-less h (inr n) = ne-eqb a b n ∙ sym (lt-leb a b (omega arith))
 
 -- ---- fractions: x / de is a, and y / dd is b
 
@@ -117,10 +107,6 @@ pub eq-is : {x y : Float} {a b : ℕ} → Is x a → Is y b → eq x y ≡ eqb a
 unfolding eq
 eq-is (is m e a p) (is n d b q) =
     and-true (eqb (m * up e * down d) (n * up d * down e)) ∙ eqb-scaled (m * up e) (n * up d) (down e) (down d) a b p q (down-pos e) (down-pos d)
-
-pub le-is : {x y : Float} {a b : ℕ} → Is x a → Is y b → le x y ≡ leb a b
-unfolding le
-le-is {x} {y} {a} {b} p q = ap₂ _||_ (lt-is p q) (eq-is p q) ∙ lt-or-eq a b
 
 -- a difference that is not negative
 neg-first : (f : Format) (a b c : ℕ) → b ≤ a → sum f false a true b c ≡ round f false (a - b) c

@@ -1,15 +1,8 @@
 // Costs are f64 that hold whole numbers up to 2 ^ 53: within these limits each operation is exact.
 ghost use mathlib.Core.Path.{_≡_};
-ghost use Prim.Native.Nat.{_≤_, _-_};
+ghost use Prim.Native.Nat.{_≤_};
 ghost use lib.Dec.{ltb, eqb};
 ghost use Rattle.model.specs.Whole.{exact, whole, amount, IsWhole};
-
-// A u32 as an f64: always exact.
-pub fn of_u32(x: u32) -> f64
-    ensures { λ r. ⌜ r ≡ whole x ⌝ }
-{
-    x as f64
-}
 
 // A u64 as an f64: exact up to 2 ^ 53.
 pub fn of_u64(n: u64) -> f64
@@ -41,12 +34,4 @@ pub fn same(a: f64, b: f64) -> bool
     ensures { λ r. ⌜ r ≡ eqb (amount a) (amount b) ⌝ }
 {
     a == b
-}
-
-// What is saved where a cost goes from old to new, which is not dearer.
-pub fn saving(old: f64, new: f64) -> f64
-    requires { ⌜ IsWhole old × IsWhole new × amount new ≤ amount old ⌝ }
-    ensures { λ r. ⌜ r ≡ whole (amount old - amount new) ⌝ }
-{
-    old - new
 }

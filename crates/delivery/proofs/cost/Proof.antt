@@ -1,4 +1,4 @@
--- `delivery::cost` meets its contract: the routes and the missed stops, added exactly.
+-- The routes and the missed stops, added exactly.
 use borrow.Author.Needs.{needs}
 use Prim.Native.Nat.{ℕ}
 use mathlib.Core.Path.{ap, _∙_}

@@ -1,4 +1,4 @@
--- `delivery::driving_cost` meets its contract. The invariant: the sum is the exact cost of the routes passed, and the next route begins where they end.
+-- The invariant: the sum is the exact cost of the routes passed, and the next route begins where they end.
 use Prim.Native.Nat.{ℕ, _+_, _-_, _≤_}
 use mathlib.Core.Path.{_≡_, sym, ap, _∙_, subst}
 use native.Mathlib.Omega.{arith}

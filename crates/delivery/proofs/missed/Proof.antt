@@ -1,4 +1,4 @@
--- `delivery::missed` meets its contract: no more stops are placed than there are.
+-- No more stops are placed than there are.
 use borrow.Author.Needs.{needs}
 use native.Mathlib.Omega.{arith}
 use denote.Ref.{now}

@@ -1,4 +1,4 @@
--- `delivery::missed_cost` meets its contract: the product is exact.
+-- The product is exact.
 use borrow.Author.Needs.{needs}
 use native.Mathlib.Omega.{arith}
 use Rattle.whole.proofs.Laws.{in-float}

@@ -1,4 +1,4 @@
--- `delivery::price` meets its contract: each product and the sum are exact.
+-- Each product and the sum are exact.
 use borrow.Author.Needs.{needs}
 use Rattle.delivery.proofs.Laws.{price-exact}
 use Rattle.delivery.proofs.price.Statement.{statement}

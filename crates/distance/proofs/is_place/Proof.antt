@@ -1,4 +1,3 @@
--- `distance::is_place` meets its contract.
 use borrow.Author.Needs.{needs}
 use borrow.Author.Tests.{lt-ltb, le-ltb, le-leb, lt-leb}
 use Rattle.distance.proofs.is_place.Statement.{statement}

@@ -1,4 +1,3 @@
--- `distance::leg` meets its contract.
 use borrow.Author.Needs.{needs}
 use mathlib.Core.Path.{refl}
 use Rattle.model.specs.Job.{entry}

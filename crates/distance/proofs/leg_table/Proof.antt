@@ -1,4 +1,4 @@
--- `distance::leg_table` meets its contract. The invariant: the cells passed are filled.
+-- The invariant: the cells passed are filled.
 use borrow.Author.Needs.{needs}
 use Prim.Native.Nat.{ℕ, _-_, _/_, _%_, _≤_, _<_}
 use mathlib.Core.Path.{_≡_, _∙_}

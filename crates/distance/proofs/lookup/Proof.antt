@@ -1,4 +1,3 @@
--- `distance::lookup` meets its contract.
 use Prim.Native.Nat.{_+_, _*_, _<_, _≤_}
 use mathlib.Core.Path.{refl}
 use native.Mathlib.Omega.{arith}

@@ -1,4 +1,3 @@
--- `distance::metres` meets its contract.
 use borrow.Author.Needs.{needs}
 use borrow.Author.Tests.{not-true, not-false}
 use Prim.Native.Nat.{ℕ, _/_, _<_}

@@ -1,4 +1,4 @@
--- `distance::route_length` meets its contract. The invariant: the sum and the way from here on are the whole way.
+-- The invariant: the sum and the way from here on are the whole way.
 use Prim.Native.Nat.{_+_, _-_, _*_, _≤_, _<_}
 use mathlib.Core.Path.{_≡_}
 use native.Mathlib.Omega.{arith}

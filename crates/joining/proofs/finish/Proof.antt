@@ -1,4 +1,3 @@
--- `joining::finish` meets its contract. Assumes nothing.
 use native.Mathlib.Omega.{arith}
 use Rattle.pasting.proofs.Put.{finished}
 use Rattle.joining.proofs.finish.Statement.{statement}

@@ -1,4 +1,3 @@
--- `joining::replace_two` meets its contract. Assumes nothing.
 use mathlib.Core.Path.{_≡_, sym}
 use Rattle.model.specs.Plan.{decode}
 use Rattle.model.specs.TwoOpt.{setRoute}

@@ -1,4 +1,3 @@
--- `joining::write_around_two` meets its contract. Assumes nothing.
 use mathlib.Core.List.{_++_}
 use lib.ListN.{length-append}
 use Rattle.pasting.proofs.Put.{around-two}

@@ -1,4 +1,3 @@
--- `joining::write_stops_two` meets its contract. Assumes nothing.
 use mathlib.Core.Path.{refl}
 use Rattle.joining.proofs.Routes.{RoomTwo, room-two, enough-two, stops-two}
 use native.Mathlib.Omega.{arith}

@@ -1,4 +1,3 @@
--- `pasting::copy_plan` meets its contract. Assumes nothing.
 use native.Mathlib.Omega.{arith}
 use mathlib.Core.Path.{_∙_}
 use Rattle.pasting.proofs.Put.{put-all}

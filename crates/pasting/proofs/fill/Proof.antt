@@ -1,4 +1,4 @@
--- `pasting::fill` meets its contract. The invariant: the first i places hold x. Assumes nothing.
+-- The invariant: the first i places hold x.
 use Prim.Native.Nat.{_-_, _≤_}
 use mathlib.Core.Path.{_≡_}
 use mathlib.Core.List.{_++_}

@@ -1,4 +1,3 @@
--- `pasting::join` meets its contract. Assumes nothing.
 use native.Mathlib.Omega.{arith}
 use Rattle.pasting.proofs.Put.{joined}
 use Rattle.pasting.proofs.join.Statement.{statement}

@@ -1,4 +1,4 @@
--- `pasting::paste` meets its contract. The invariant: to has the first i of from's elements in their place. Assumes nothing.
+-- The invariant: to has the first i of from's elements in their place.
 use Prim.Native.Nat.{_-_, _≤_}
 use mathlib.Core.Path.{_≡_, refl}
 use native.Mathlib.Omega.{arith}

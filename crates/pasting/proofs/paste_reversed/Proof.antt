@@ -1,4 +1,4 @@
--- `pasting::paste_reversed` meets its contract. The invariant: to has the first i of from's elements, from the last, in their place. Assumes nothing.
+-- The invariant: to has the first i of from's elements, from the last, in their place.
 use Prim.Native.Nat.{_-_, _≤_}
 use mathlib.Core.Path.{_≡_, sym}
 use mathlib.Core.List.{reverse}

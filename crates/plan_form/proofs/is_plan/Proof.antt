@@ -1,4 +1,3 @@
--- `plan_form::is_plan` meets its contract. Assumes nothing.
 use mathlib.Core.Path.{sym, _∙_}
 use Rattle.plan_form.proofs.Form.{too-long, first-holds, first-fails}
 use native.Mathlib.Omega.{arith}

@@ -1,4 +1,3 @@
--- `plan_form::stops_once` meets its contract. Assumes nothing.
 use Prim.Native.Nat.{_-_, _≤_}
 use mathlib.Core.Path.{_≡_, sym, _∙_}
 use mathlib.Core.Bool.{_&&_}

@@ -1,4 +1,4 @@
--- `ruin_and_recreate::rounds` meets its contract. The measure is the number of rounds that are still allowed. Assumes nothing.
+-- The measure is the number of rounds that are still allowed.
 use borrow.Author.Needs.{needs}
 use mathlib.Core.Path.{refl, sym, _∙_}
 use Prim.Native.Nat.{_-_}

@@ -1,4 +1,3 @@
--- `ruin_and_recreate::run` meets its contract. Assumes nothing.
 use borrow.Author.Needs.{needs}
 use mathlib.Core.Logic.{⊎-elim}
 use Rattle.ruin_and_recreate.proofs.Whole.{no-vehicle, few-stops, some-rounds, ran-none, ran-rounds}

@@ -1,4 +1,3 @@
--- `run_draws::pick` meets its contract. Assumes nothing.
 use borrow.Author.Needs.{needs}
 use Rattle.run_draws.proofs.Picks.{picks-one, picks-before, picks-after}
 use Rattle.run_draws.proofs.pick.Statement.{statement}

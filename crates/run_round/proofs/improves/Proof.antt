@@ -1,4 +1,3 @@
--- `run_round::improves` meets its contract. Assumes nothing.
 use mathlib.Core.Bool.{true, false}
 use native.Mathlib.Omega.{arith}
 use Rattle.run_round.proofs.Steps.{improves-one}

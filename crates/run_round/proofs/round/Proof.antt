@@ -1,4 +1,3 @@
--- `run_round::round` meets its contract. Assumes nothing.
 use borrow.Author.Needs.{needs}
 use mathlib.Core.Path.{refl}
 use native.Mathlib.Omega.{arith}
@@ -107,7 +106,7 @@ returns c =
     let s = start (drew p) in
     let a = s .args in
     rounded (a .legs .now) (a .v) (a .n) (a .prices) (a .near .now) (a .draws .now) (a .smoothing) (s .pre .0)
-    _ _ _ _ _ _ (x .result) _ _ (a .p) _ (s .pre .1 .0) (x .ensures .0) (x .ensures .1) (part-row (x .result) (a .n) (a .near .now)) (p .pass .ensures .0)
+    _ _ _ _ _ _ _ (x .result) _ _ (a .p) _ (s .pre .1 .0) (x .ensures .0) (x .ensures .1) (part-row (x .result) (a .n) (a .near .now)) (p .pass .ensures .0)
     (k .ensures) (part-picks (k .result) (k .last .1 .1 .1 .1 .0)) (r .rebuild .ensures) (c .counted .ensures)
 
 pub round-spec : {M : Type 1} → statement M

@@ -1,4 +1,3 @@
--- `solution::offset` meets its contract. Assumes nothing.
 use Rattle.model.proofs.Lists.{sum-take-le}
 use native.Mathlib.Omega.{arith}
 use borrow.Author.Needs.{needs}

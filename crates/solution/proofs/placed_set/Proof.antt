@@ -1,4 +1,3 @@
--- `solution::placed_set` meets its contract. Assumes nothing.
 use Rattle.solution.proofs.Used.{used-stops}
 use native.Mathlib.Omega.{arith}
 use Rattle.solution.proofs.placed_set.Statement.{statement}

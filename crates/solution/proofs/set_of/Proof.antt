@@ -1,4 +1,3 @@
--- `solution::set_of` meets its contract. Assumes nothing.
 use Prim.Native.Nat.{_-_, _^_, _≤_, _<_}
 use lib.Dec.{lit<}
 use lib.ListN.{length, take}

@@ -1,4 +1,3 @@
--- `solution::sum_lengths` meets its contract. Assumes nothing.
 use Prim.Native.Nat.{_-_, _*_, _≤_}
 use native.Mathlib.Numerals.{add-one}
 use mathlib.Core.Path.{_≡_}

@@ -1,4 +1,4 @@
--- `stop_set::below` meets its contract: the n lowest digits are 1 in 2 ^ n - 1.
+-- The n lowest digits are 1 in 2 ^ n - 1.
 use borrow.Author.Needs.{needs}
 use mathlib.Core.Path.{ap, sym, subst, _∙_}
 use Prim.Native.Nat.{ℕ, _-_, _≤_}

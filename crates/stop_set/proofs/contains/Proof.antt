@@ -1,4 +1,3 @@
--- `stop_set::contains` meets its contract.
 use borrow.Author.Needs.{needs}
 use mathlib.Core.Path.{ap}
 use Prim.Native.Nat.{ℕ, _^_, _/_}

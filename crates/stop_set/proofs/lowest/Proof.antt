@@ -1,4 +1,3 @@
--- `stop_set::lowest` meets its contract.
 use Rattle.stop_set.proofs.Laws.{stops-first}
 use Rattle.stop_set.proofs.lowest.Statement.{statement}
 use Rattle.stop_set.proofs.lowest.Tie as tie

@@ -1,4 +1,3 @@
--- `stop_set::size` meets its contract.
 use mathlib.Core.Path.{refl}
 use Rattle.stop_set.proofs.Laws.{size-stops}
 use Rattle.stop_set.proofs.size.Statement.{statement}

@@ -1,4 +1,3 @@
--- `stop_set::with` meets its contract.
 use borrow.Author.Needs.{needs}
 use mathlib.Core.Path.{ap, _∙_}
 use lib.Bits.{bitOr}

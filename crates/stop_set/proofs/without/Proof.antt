@@ -1,4 +1,3 @@
--- `stop_set::without` meets its contract.
 use borrow.Author.Needs.{needs}
 use mathlib.Core.Path.{ap, _∙_}
 use Prim.Native.Nat.{ℕ, _-_, _*_, _%_, _^_}

@@ -1,4 +1,3 @@
--- `whole::cheaper` meets its contract.
 use Rattle.whole.proofs.Laws.{lt-amount}
 use Rattle.whole.proofs.cheaper.Statement.{statement}
 use Rattle.whole.proofs.cheaper.Tie as tie

@@ -1,4 +1,3 @@
--- `whole::of_u64` meets its contract.
 use mathlib.Core.Path.{refl}
 use Rattle.whole.proofs.Laws.{in-float}
 use Rattle.whole.proofs.of_u64.Statement.{statement}

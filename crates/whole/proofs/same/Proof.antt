@@ -1,4 +1,3 @@
--- `whole::same` meets its contract.
 use Rattle.whole.proofs.Laws.{eq-amount}
 use Rattle.whole.proofs.same.Statement.{statement}
 use Rattle.whole.proofs.same.Tie as tie

@@ -1,4 +1,3 @@
--- `whole::to_whole` meets its contract.
 use mathlib.Core.Path.{refl}
 use Rattle.whole.proofs.Laws.{cast-amount, whole-amount}
 use Rattle.whole.proofs.to_whole.Statement.{statement}
