@@ -10,7 +10,7 @@ use Rattle.model.specs.Lists.{member, Once, allBelow, allOnce}
 use Rattle.model.specs.Job.{vehicleCount, stopCount}
 use Rattle.model.specs.Plan.{Lent, Sizes}
 use Rattle.model.specs.Legs.{Affordable}
-use Rattle.model.specs.Refusals.{Arguments, Call, Weigh, StartPlan, TwoOpt, Rebuild, Exhaustive, Pruned, Solve, asked, refusal, within, badDraws, badPrices, badSmoothing, badLimit, badPlan, badGiven, tooLarge}
+use Rattle.model.specs.Refusals.{Arguments, Call, Weigh, StartPlan, TwoOpt, Rebuild, Exhaustive, Pruned, Solve, asked, refusal, within, badDraws, badPrices, badSmoothing, badPlan, badGiven, tooLarge}
 use Rattle.model.proofs.Lists.{neither}
 use Rattle.model.proofs.Counts.{Below, allBelow-below, allOnce-once}
 use Rattle.model.proofs.PlanForm.{isPlan-lent}
@@ -76,7 +76,7 @@ module _ (c : Call) (A : Arguments) (e : refusal c A ≡ 0) where
   unfolding badPlan
   lent m = isPlan-lent _ _ _ (listed .long) (not-false _ (none-applies c A e 11 m))
 
-  -- 5, 9 and 10: the draws, c and the limit are within their ranges
+  -- 5 and 9: the number of draws and c are within their ranges
   pub drawable : member 5 (asked c) ≡ true → (1 ≤ length (A .draws)) × (length (A .draws) ≤ 1024)
   unfolding badDraws
   drawable m = in-range 1 1024 (length (A .draws)) (none-applies c A e 5 m)
@@ -84,10 +84,6 @@ module _ (c : Call) (A : Arguments) (e : refusal c A ≡ 0) where
   pub smooth : member 9 (asked c) ≡ true → (1 ≤ A .smoothing) × (A .smoothing ≤ 1000)
   unfolding badSmoothing
   smooth m = in-range 1 1000 (A .smoothing) (none-applies c A e 9 m)
-
-  pub limited : member 10 (asked c) ≡ true → (1 ≤ A .limit) × (A .limit ≤ 1000000)
-  unfolding badLimit
-  limited m = in-range 1 1000000 (A .limit) (none-applies c A e 10 m)
 
   -- 12: the given stops
   pub stops : member 12 (asked c) ≡ true → Given (stopCount (A .job)) (A .given)

@@ -2,3 +2,4 @@ pub mod Order
 pub mod Passed
 pub mod Accepted
 pub mod Answers
+pub mod Lowest

@@ -6,7 +6,7 @@ ghost use Rattle.model.specs.Refusals.{badVehicles, badStops, badTable, badLeng
 use model::Prices;
 
 // Whether each number of a list is below a limit.
-pub fn all_below(list: &[u32], limit: u32) -> bool
+fn all_below(list: &[u32], limit: u32) -> bool
     ensures { λ r. ⌜ r ≡ allBelow limit (now (list .entry)) ⌝ }
 {
     let mut i = 0;

@@ -1,4 +1,4 @@
--- Laws of specs/Cost.antt, from which what a plan costs is had without opening its text. Assumes nothing.
+-- Laws of specs/Cost.antt, from which what a plan costs is had without opening its text.
 use Prim.Native.Nat.{ℕ, zero, suc, _+_, _-_, _*_, _<_, _≤_}
 use native.Mathlib.Omega.{arith}
 use native.Mathlib.Nat.{le-of-suc-le-suc, zero-add, add-zero, add-suc, suc-add, mul-le-mul, mul-le-mul-right, add-le-add}

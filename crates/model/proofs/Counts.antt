@@ -1,4 +1,4 @@
--- How often a number stands in a list, and what follows where none stands twice. Assumes nothing.
+-- How often a number stands in a list, and what follows where none stands twice.
 -- `count-append`, `count-at`, `count-without`, `count-upFrom` and the laws of `member` are beside the other laws of lists, in Lists.antt.
 use Prim.Native.Nat.{ℕ, zero, suc, _+_, _-_, _<_, _≤_}
 use native.Mathlib.Omega.{arith}

@@ -1,4 +1,4 @@
--- Laws of specs/Lists.antt. Assumes nothing.
+-- Laws of specs/Lists.antt.
 -- In the libraries already: `length-append`, `length-take`, `length-drop`, `length-reverse`, `take-append-drop`, `length-map` (lib.ListN);
 -- `append-assoc`, `append-nil`, `reverse-cons`, `reverse-append`, `reverse-reverse` (mathlib.Core.List); `take-at`, `drop-at`, `split-at` and more (lib.Seq).
 use Prim.Native.Nat.{ℕ, zero, suc, _+_, _-_, _<_, _≤_}

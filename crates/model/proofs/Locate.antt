@@ -1,4 +1,4 @@
--- Which vehicle a stop is on, and where on its route. Assumes nothing.
+-- Which vehicle a stop is on, and where on its route.
 use Prim.Native.Nat.{ℕ, zero, suc, _<_, _≤_}
 use native.Mathlib.Omega.{arith}
 use native.Mathlib.Nat.{le-of-suc-le-suc}

@@ -1,4 +1,4 @@
--- Two-opt moves stops and loses none, keeps the number of routes, and never makes a plan dearer. Assumes nothing.
+-- Two-opt moves stops and loses none, keeps the number of routes, and never makes a plan dearer.
 use Prim.Native.Nat.{ℕ, suc, _+_, _<_, _≤_, min, max}
 use native.Mathlib.Omega.{arith}
 use native.Mathlib.Nat.{le-trans}

@@ -1,4 +1,4 @@
--- The stops by distance: sorting moves them and loses none, and S(x) has each stop once. Assumes nothing.
+-- The stops by distance: sorting moves them and loses none, and S(x) has each stop once.
 use Prim.Native.Nat.{ℕ, _+_, _<_}
 use native.Mathlib.Omega.{arith}
 use mathlib.Core.Path.{_≡_, refl, _∙_}

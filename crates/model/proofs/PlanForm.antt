@@ -1,4 +1,4 @@
--- The lent form of a plan, and the plan that a lent form holds: each is had from the other. Assumes nothing.
+-- The lent form of a plan, and the plan that a lent form holds: each is had from the other.
 use Prim.Native.Nat.{ℕ, zero, suc, _+_, _-_, _<_, _≤_}
 use native.Mathlib.Omega.{arith}
 use native.Mathlib.Nat.{le-of-suc-le-suc, add-sub-cancel-left}

@@ -1,4 +1,5 @@
 -- The public calls: what each answers and what it leaves in the lent plan, for refused and accepted arguments alike.
+use mathlib.Core.Path.{_≡_}
 use Prim.Native.Nat.{ℕ, zero, suc, _+_}
 use mathlib.Core.Bool.{Bool, true, false, cond, _&&_, _||_, not}
 use mathlib.Core.List.{List, [], _∷_}
@@ -131,3 +132,39 @@ unfoldable pub saidBySolved : Solved → Said
 saidBySolved (S.Refused k) = record { number = k; values = [] }
 saidBySolved (S.Ran t) =
     record { number = 0; values = amount (t .start) ∷ amount (t .end) ∷ t .rounds ∷ t .improving ∷ cond (t .settled) 1 0 ∷ [] }
+
+-- ---- the number and values that a call has to say, in whole numbers
+
+abbrev pub saying : ℕ → List ℕ → Said
+saying zero values = record { number = 0; values = values }
+saying (suc k) values = record { number = suc k; values = [] }
+
+unfoldable pub costSaid : Call → Arguments → Said
+costSaid c A = saying (refusal c A) (cost (A .job) (made c A) ∷ [])
+
+unfoldable pub startSaid : Arguments → Said
+startSaid A = saying (refusal StartPlan A) []
+
+-- of a run of these rounds that leaves the plan P
+abbrev pub runValues : Task → List Round → Plan → List ℕ
+runValues T rs P =
+    let J = T .job in
+    let s = lastState (startState T) rs in
+    cost J (startPlan J) ∷ cost J P ∷ length rs ∷ s .improving ∷ cond (not (hasRounds J) || ends s) 1 0 ∷ []
+
+unfoldable pub solveSaid : Arguments → Said
+solveSaid A = let T = taskOf A in saying (refusal Solve A) (runValues T (roundsOf T) (finalState T .plan))
+
+-- ---- what a call promises: its answer, the number and values that this is, and the lent plan at exit (`solve` promises more: see planner)
+
+-- weigh, two_opt, rebuild, exhaustive and pruned
+pub record Weighs (c : Call) (A : Arguments) (r : Weighed) (left : List ℕ) : Type 0 where
+  pub answer : r ≡ costAnswer c A
+  pub said : saidByWeighed r ≡ costSaid c A
+  pub plan : left ≡ planLeft c A
+
+-- start_plan
+pub record Writes (A : Arguments) (r : Written) (left : List ℕ) : Type 0 where
+  pub answer : r ≡ startAnswer A
+  pub said : saidByWritten r ≡ startSaid A
+  pub plan : left ≡ planLeft StartPlan A

@@ -1,2 +1,4 @@
 pub mod Pair
 pub mod Solving
+pub mod Exact
+pub mod Saying

@@ -1,11 +1,10 @@
-// The public calls, under one name. Each tests its arguments and answers what `Calls` of model defines: a refusal by its number, with
+// The public calls, under one name. Each tests its arguments and promises what `Calls` of model defines: a refusal by its number, with
 // the lent plan as it was, or the values, with the new plan in the lent one. None has a precondition.
-ghost use mathlib.Core.Path.{_≡_};
 ghost use mathlib.Core.List.{[], _∷_};
 ghost use Rattle.model.specs.Job.{jobOf};
-ghost use Rattle.model.specs.Refusals.{asking, Weigh, StartPlan, TwoOpt, Rebuild, Exhaustive, Pruned, Solve, unpriced, running};
-ghost use Rattle.model.specs.Calls.{costAnswer, startAnswer, planLeft, solveAnswer};
-ghost use Rattle.planner.specs.Kept.{Keeps};
+ghost use Rattle.model.specs.Refusals.{asking, Weigh, TwoOpt, Rebuild, Exhaustive, Pruned, unpriced, running};
+ghost use Rattle.model.specs.Calls.{Weighs, Writes};
+ghost use Rattle.planner.specs.Kept.{Solves};
 use model::Prices;
 use model::Solved;
 use model::Weighed;
@@ -20,7 +19,7 @@ pub fn weigh(
     prices: Prices,
     plan: &[u32],
 ) -> Weighed
-    ensures { λ r. ⌜ r ≡ costAnswer Weigh (asking (jobOf (now (vehicles .entry)) (now (stops .entry)) locations (now (distances .entry)) prices) (now (plan .entry)) []) ⌝ }
+    ensures { λ r. ⌜ Weighs Weigh (asking (jobOf (now (vehicles .entry)) (now (stops .entry)) locations (now (distances .entry)) prices) (now (plan .entry)) []) r (now (plan .entry)) ⌝ }
 {
     let refused = call_refusals::of_weigh(vehicles, stops, locations, distances, prices, plan);
     if refused != 0 {
@@ -40,8 +39,7 @@ pub fn start_plan(
     distances: &[u32],
     plan: &mut [u32],
 ) -> Written
-    ensures { λ r. ⌜ r ≡ startAnswer (asking (jobOf (now (vehicles .entry)) (now (stops .entry)) locations (now (distances .entry)) unpriced) (now (plan .entry)) []) ⌝ }
-    ensures { λ _. ⌜ now (plan .exit) ≡ planLeft StartPlan (asking (jobOf (now (vehicles .entry)) (now (stops .entry)) locations (now (distances .entry)) unpriced) (now (plan .entry)) []) ⌝ }
+    ensures { λ r. ⌜ Writes (asking (jobOf (now (vehicles .entry)) (now (stops .entry)) locations (now (distances .entry)) unpriced) (now (plan .entry)) []) r (now (plan .exit)) ⌝ }
 {
     let refused = call_refusals::of_start_plan(vehicles, stops, locations, distances, plan);
     if refused != 0 {
@@ -65,8 +63,7 @@ pub fn two_opt(
     first: u32,
     second: u32,
 ) -> Weighed
-    ensures { λ r. ⌜ r ≡ costAnswer TwoOpt (asking (jobOf (now (vehicles .entry)) (now (stops .entry)) locations (now (distances .entry)) prices) (now (plan .entry)) (first ∷ second ∷ [])) ⌝ }
-    ensures { λ _. ⌜ now (plan .exit) ≡ planLeft TwoOpt (asking (jobOf (now (vehicles .entry)) (now (stops .entry)) locations (now (distances .entry)) prices) (now (plan .entry)) (first ∷ second ∷ [])) ⌝ }
+    ensures { λ r. ⌜ Weighs TwoOpt (asking (jobOf (now (vehicles .entry)) (now (stops .entry)) locations (now (distances .entry)) prices) (now (plan .entry)) (first ∷ second ∷ [])) r (now (plan .exit)) ⌝ }
 {
     let both = [first, second];
     let refused = call_refusals::of_rebuild(
@@ -99,8 +96,7 @@ pub fn rebuild(
     plan: &mut [u32],
     given: &[u32],
 ) -> Weighed
-    ensures { λ r. ⌜ r ≡ costAnswer Rebuild (asking (jobOf (now (vehicles .entry)) (now (stops .entry)) locations (now (distances .entry)) prices) (now (plan .entry)) (now (given .entry))) ⌝ }
-    ensures { λ _. ⌜ now (plan .exit) ≡ planLeft Rebuild (asking (jobOf (now (vehicles .entry)) (now (stops .entry)) locations (now (distances .entry)) prices) (now (plan .entry)) (now (given .entry))) ⌝ }
+    ensures { λ r. ⌜ Weighs Rebuild (asking (jobOf (now (vehicles .entry)) (now (stops .entry)) locations (now (distances .entry)) prices) (now (plan .entry)) (now (given .entry))) r (now (plan .exit)) ⌝ }
 {
     let refused = call_refusals::of_rebuild(
         vehicles,
@@ -129,8 +125,7 @@ pub fn exhaustive(
     prices: Prices,
     plan: &mut [u32],
 ) -> Weighed
-    ensures { λ r. ⌜ r ≡ costAnswer Exhaustive (asking (jobOf (now (vehicles .entry)) (now (stops .entry)) locations (now (distances .entry)) prices) (now (plan .entry)) []) ⌝ }
-    ensures { λ _. ⌜ now (plan .exit) ≡ planLeft Exhaustive (asking (jobOf (now (vehicles .entry)) (now (stops .entry)) locations (now (distances .entry)) prices) (now (plan .entry)) []) ⌝ }
+    ensures { λ r. ⌜ Weighs Exhaustive (asking (jobOf (now (vehicles .entry)) (now (stops .entry)) locations (now (distances .entry)) prices) (now (plan .entry)) []) r (now (plan .exit)) ⌝ }
 {
     let refused = call_refusals::of_exhaustive(vehicles, stops, locations, distances, prices, plan);
     if refused != 0 {
@@ -151,8 +146,7 @@ pub fn pruned(
     prices: Prices,
     plan: &mut [u32],
 ) -> Weighed
-    ensures { λ r. ⌜ r ≡ costAnswer Pruned (asking (jobOf (now (vehicles .entry)) (now (stops .entry)) locations (now (distances .entry)) prices) (now (plan .entry)) []) ⌝ }
-    ensures { λ _. ⌜ now (plan .exit) ≡ planLeft Pruned (asking (jobOf (now (vehicles .entry)) (now (stops .entry)) locations (now (distances .entry)) prices) (now (plan .entry)) []) ⌝ }
+    ensures { λ r. ⌜ Weighs Pruned (asking (jobOf (now (vehicles .entry)) (now (stops .entry)) locations (now (distances .entry)) prices) (now (plan .entry)) []) r (now (plan .exit)) ⌝ }
 {
     let refused = call_refusals::of_exhaustive(vehicles, stops, locations, distances, prices, plan);
     if refused != 0 {
@@ -176,9 +170,7 @@ pub fn solve(
     draws: &[u32],
     plan: &mut [u32],
 ) -> Solved
-    ensures { λ r. ⌜ r ≡ solveAnswer (running (jobOf (now (vehicles .entry)) (now (stops .entry)) locations (now (distances .entry)) prices) smoothing limit (now (draws .entry)) (now (plan .entry))) ⌝ }
-    ensures { λ _. ⌜ now (plan .exit) ≡ planLeft Solve (running (jobOf (now (vehicles .entry)) (now (stops .entry)) locations (now (distances .entry)) prices) smoothing limit (now (draws .entry)) (now (plan .entry))) ⌝ }
-    ensures { λ r. ⌜ Keeps (running (jobOf (now (vehicles .entry)) (now (stops .entry)) locations (now (distances .entry)) prices) smoothing limit (now (draws .entry)) (now (plan .entry))) r (now (plan .exit)) ⌝ }
+    ensures { λ r. ⌜ Solves (running (jobOf (now (vehicles .entry)) (now (stops .entry)) locations (now (distances .entry)) prices) smoothing limit (now (draws .entry)) (now (plan .entry))) r (now (plan .exit)) ⌝ }
 {
     let number = call_refusals::of_solve(
         vehicles,

@@ -1,17 +1,24 @@
--- What a call leaves in the numbers that a host lends it for results: the answer's, or what was there, where it is refused.
+-- What a host gets: the number that a call returns, what stands in the numbers that it lends for results, and the plan.
+use mathlib.Core.Path.{_≡_}
 use Prim.Native.Nat.{ℕ}
 use mathlib.Core.Bool.{cond}
-use mathlib.Core.List.{List}
+use mathlib.Core.List.{List, [], _∷_}
 use lib.Ieee.{Float}
 use Rattle.model.specs.declared.Prices.{Prices}
 use Rattle.model.specs.declared.Weighed.{Weighed}
 use Rattle.model.specs.declared.Weighed.the-variants as W
 use Rattle.model.specs.declared.Solved.{Solved}
 use Rattle.model.specs.declared.Solved.the-variants as S
+use Rattle.model.specs.Whole.{amount}
+use Rattle.model.specs.Refusals.{Arguments, Call, StartPlan, Solve}
+use Rattle.model.specs.Calls.{costAnswer, solveAnswer, planLeft, saying, costSaid, startSaid, solveSaid}
+use Rattle.planner.specs.Kept.{Keeps}
 
 -- prices cross the border as three numbers
 abbrev pub priced : ℕ → ℕ → ℕ → Prices
 priced linear quadratic missed = record { linear = linear; quadratic = quadratic; missed = missed }
+
+-- ---- the numbers lent for results: the answer's, or what was there, where the call is refused
 
 -- of weigh, two_opt, rebuild, exhaustive and pruned
 unfoldable pub costLeft : Weighed → Float → Float
@@ -34,3 +41,24 @@ resultsLeft (S.Ran t) old =
 
 abbrev pub results : Float → Float → ℕ → ℕ → ℕ → Results
 results start end rounds improving settled = record { start = start; end = end; rounds = rounds; improving = improving; settled = settled }
+
+-- the same numbers as 01's values
+abbrev pub valuesIn : Results → List ℕ
+valuesIn x = amount (x .start) ∷ amount (x .end) ∷ x .rounds ∷ x .improving ∷ x .settled ∷ []
+
+-- ---- what a call promises its host: the number r and the values, the numbers lent for results bit by bit, and the plan
+
+pub record HandsCost (c : Call) (A : Arguments) (r : ℕ) (old new : Float) (left : List ℕ) : Type 0 where
+  pub said : saying r (amount new ∷ []) ≡ costSaid c A
+  pub cost : new ≡ costLeft (costAnswer c A) old
+  pub plan : left ≡ planLeft c A
+
+pub record HandsPlan (A : Arguments) (r : ℕ) (left : List ℕ) : Type 0 where
+  pub said : saying r [] ≡ startSaid A
+  pub plan : left ≡ planLeft StartPlan A
+
+pub record HandsRun (A : Arguments) (r : ℕ) (old new : Results) (left : List ℕ) : Type 0 where
+  pub said : saying r (valuesIn new) ≡ solveSaid A
+  pub results : new ≡ resultsLeft (solveAnswer A) old
+  pub plan : left ≡ planLeft Solve A
+  pub keeps : Keeps A (solveAnswer A) left

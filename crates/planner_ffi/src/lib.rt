@@ -3,10 +3,9 @@
 ghost use mathlib.Core.Path.{_≡_};
 ghost use mathlib.Core.List.{[], _∷_};
 ghost use Rattle.model.specs.Job.{jobOf};
-ghost use Rattle.model.specs.Refusals.{asking, Weigh, StartPlan, TwoOpt, Rebuild, Exhaustive, Pruned, Solve, unpriced, running};
-ghost use Rattle.model.specs.Calls.{costAnswer, startAnswer, solveAnswer, planLeft, saidByWeighed, saidByWritten, saidBySolved};
-ghost use Rattle.planner.specs.Kept.{Keeps};
-ghost use Rattle.planner_ffi.specs.Border.{priced, costLeft, results, resultsLeft};
+ghost use Rattle.model.specs.Refusals.{asking, Weigh, TwoOpt, Rebuild, Exhaustive, Pruned, unpriced, running};
+ghost use Rattle.model.specs.Calls.{saidByWeighed, saidBySolved};
+ghost use Rattle.planner_ffi.specs.Border.{priced, costLeft, results, resultsLeft, HandsCost, HandsPlan, HandsRun};
 use model::Prices;
 use model::Solved;
 use model::Weighed;
@@ -65,8 +64,7 @@ pub extern "C" fn planner_weigh(
     plan: &[u32],
     cost: &mut f64,
 ) -> u32
-    ensures { λ r. ⌜ r ≡ saidByWeighed (costAnswer Weigh (asking (jobOf (now (vehicles .entry)) (now (stops .entry)) locations (now (distances .entry)) (priced linear quadratic missed)) (now (plan .entry)) [])) .number ⌝ }
-    ensures { λ _. ⌜ now (cost .exit) ≡ costLeft (costAnswer Weigh (asking (jobOf (now (vehicles .entry)) (now (stops .entry)) locations (now (distances .entry)) (priced linear quadratic missed)) (now (plan .entry)) [])) (now (cost .entry)) ⌝ }
+    ensures { λ r. ⌜ HandsCost Weigh (asking (jobOf (now (vehicles .entry)) (now (stops .entry)) locations (now (distances .entry)) (priced linear quadratic missed)) (now (plan .entry)) []) r (now (cost .entry)) (now (cost .exit)) (now (plan .entry)) ⌝ }
 {
     let prices = Prices {
         linear,
@@ -86,8 +84,7 @@ pub extern "C" fn planner_start_plan(
     distances: &[u32],
     plan: &mut [u32],
 ) -> u32
-    ensures { λ r. ⌜ r ≡ saidByWritten (startAnswer (asking (jobOf (now (vehicles .entry)) (now (stops .entry)) locations (now (distances .entry)) unpriced) (now (plan .entry)) [])) .number ⌝ }
-    ensures { λ _. ⌜ now (plan .exit) ≡ planLeft StartPlan (asking (jobOf (now (vehicles .entry)) (now (stops .entry)) locations (now (distances .entry)) unpriced) (now (plan .entry)) []) ⌝ }
+    ensures { λ r. ⌜ HandsPlan (asking (jobOf (now (vehicles .entry)) (now (stops .entry)) locations (now (distances .entry)) unpriced) (now (plan .entry)) []) r (now (plan .exit)) ⌝ }
 {
     match planner::start_plan(vehicles, stops, locations, distances, plan) {
         Written::Refused(number) => number,
@@ -110,9 +107,7 @@ pub extern "C" fn planner_two_opt(
     second: u32,
     cost: &mut f64,
 ) -> u32
-    ensures { λ r. ⌜ r ≡ saidByWeighed (costAnswer TwoOpt (asking (jobOf (now (vehicles .entry)) (now (stops .entry)) locations (now (distances .entry)) (priced linear quadratic missed)) (now (plan .entry)) (first ∷ second ∷ []))) .number ⌝ }
-    ensures { λ _. ⌜ now (cost .exit) ≡ costLeft (costAnswer TwoOpt (asking (jobOf (now (vehicles .entry)) (now (stops .entry)) locations (now (distances .entry)) (priced linear quadratic missed)) (now (plan .entry)) (first ∷ second ∷ []))) (now (cost .entry)) ⌝ }
-    ensures { λ _. ⌜ now (plan .exit) ≡ planLeft TwoOpt (asking (jobOf (now (vehicles .entry)) (now (stops .entry)) locations (now (distances .entry)) (priced linear quadratic missed)) (now (plan .entry)) (first ∷ second ∷ [])) ⌝ }
+    ensures { λ r. ⌜ HandsCost TwoOpt (asking (jobOf (now (vehicles .entry)) (now (stops .entry)) locations (now (distances .entry)) (priced linear quadratic missed)) (now (plan .entry)) (first ∷ second ∷ [])) r (now (cost .entry)) (now (cost .exit)) (now (plan .exit)) ⌝ }
 {
     let prices = Prices {
         linear,
@@ -146,9 +141,7 @@ pub extern "C" fn planner_rebuild(
     given: &[u32],
     cost: &mut f64,
 ) -> u32
-    ensures { λ r. ⌜ r ≡ saidByWeighed (costAnswer Rebuild (asking (jobOf (now (vehicles .entry)) (now (stops .entry)) locations (now (distances .entry)) (priced linear quadratic missed)) (now (plan .entry)) (now (given .entry)))) .number ⌝ }
-    ensures { λ _. ⌜ now (cost .exit) ≡ costLeft (costAnswer Rebuild (asking (jobOf (now (vehicles .entry)) (now (stops .entry)) locations (now (distances .entry)) (priced linear quadratic missed)) (now (plan .entry)) (now (given .entry)))) (now (cost .entry)) ⌝ }
-    ensures { λ _. ⌜ now (plan .exit) ≡ planLeft Rebuild (asking (jobOf (now (vehicles .entry)) (now (stops .entry)) locations (now (distances .entry)) (priced linear quadratic missed)) (now (plan .entry)) (now (given .entry))) ⌝ }
+    ensures { λ r. ⌜ HandsCost Rebuild (asking (jobOf (now (vehicles .entry)) (now (stops .entry)) locations (now (distances .entry)) (priced linear quadratic missed)) (now (plan .entry)) (now (given .entry))) r (now (cost .entry)) (now (cost .exit)) (now (plan .exit)) ⌝ }
 {
     let prices = Prices {
         linear,
@@ -172,9 +165,7 @@ pub extern "C" fn planner_exhaustive(
     plan: &mut [u32],
     cost: &mut f64,
 ) -> u32
-    ensures { λ r. ⌜ r ≡ saidByWeighed (costAnswer Exhaustive (asking (jobOf (now (vehicles .entry)) (now (stops .entry)) locations (now (distances .entry)) (priced linear quadratic missed)) (now (plan .entry)) [])) .number ⌝ }
-    ensures { λ _. ⌜ now (cost .exit) ≡ costLeft (costAnswer Exhaustive (asking (jobOf (now (vehicles .entry)) (now (stops .entry)) locations (now (distances .entry)) (priced linear quadratic missed)) (now (plan .entry)) [])) (now (cost .entry)) ⌝ }
-    ensures { λ _. ⌜ now (plan .exit) ≡ planLeft Exhaustive (asking (jobOf (now (vehicles .entry)) (now (stops .entry)) locations (now (distances .entry)) (priced linear quadratic missed)) (now (plan .entry)) []) ⌝ }
+    ensures { λ r. ⌜ HandsCost Exhaustive (asking (jobOf (now (vehicles .entry)) (now (stops .entry)) locations (now (distances .entry)) (priced linear quadratic missed)) (now (plan .entry)) []) r (now (cost .entry)) (now (cost .exit)) (now (plan .exit)) ⌝ }
 {
     let prices = Prices {
         linear,
@@ -198,9 +189,7 @@ pub extern "C" fn planner_pruned(
     plan: &mut [u32],
     cost: &mut f64,
 ) -> u32
-    ensures { λ r. ⌜ r ≡ saidByWeighed (costAnswer Pruned (asking (jobOf (now (vehicles .entry)) (now (stops .entry)) locations (now (distances .entry)) (priced linear quadratic missed)) (now (plan .entry)) [])) .number ⌝ }
-    ensures { λ _. ⌜ now (cost .exit) ≡ costLeft (costAnswer Pruned (asking (jobOf (now (vehicles .entry)) (now (stops .entry)) locations (now (distances .entry)) (priced linear quadratic missed)) (now (plan .entry)) [])) (now (cost .entry)) ⌝ }
-    ensures { λ _. ⌜ now (plan .exit) ≡ planLeft Pruned (asking (jobOf (now (vehicles .entry)) (now (stops .entry)) locations (now (distances .entry)) (priced linear quadratic missed)) (now (plan .entry)) []) ⌝ }
+    ensures { λ r. ⌜ HandsCost Pruned (asking (jobOf (now (vehicles .entry)) (now (stops .entry)) locations (now (distances .entry)) (priced linear quadratic missed)) (now (plan .entry)) []) r (now (cost .entry)) (now (cost .exit)) (now (plan .exit)) ⌝ }
 {
     let prices = Prices {
         linear,
@@ -231,11 +220,10 @@ pub extern "C" fn planner_solve(
     improving: &mut u32,
     settled: &mut u32,
 ) -> u32
-    ensures { λ r. ⌜ r ≡ saidBySolved (solveAnswer (running (jobOf (now (vehicles .entry)) (now (stops .entry)) locations (now (distances .entry)) (priced linear quadratic missed)) smoothing limit (now (draws .entry)) (now (plan .entry)))) .number ⌝ }
-    ensures { λ _. ⌜ results (now (start .exit)) (now (end .exit)) (now (rounds .exit)) (now (improving .exit)) (now (settled .exit))
-        ≡ resultsLeft (solveAnswer (running (jobOf (now (vehicles .entry)) (now (stops .entry)) locations (now (distances .entry)) (priced linear quadratic missed)) smoothing limit (now (draws .entry)) (now (plan .entry)))) (results (now (start .entry)) (now (end .entry)) (now (rounds .entry)) (now (improving .entry)) (now (settled .entry))) ⌝ }
-    ensures { λ _. ⌜ now (plan .exit) ≡ planLeft Solve (running (jobOf (now (vehicles .entry)) (now (stops .entry)) locations (now (distances .entry)) (priced linear quadratic missed)) smoothing limit (now (draws .entry)) (now (plan .entry))) ⌝ }
-    ensures { λ _. ⌜ Keeps (running (jobOf (now (vehicles .entry)) (now (stops .entry)) locations (now (distances .entry)) (priced linear quadratic missed)) smoothing limit (now (draws .entry)) (now (plan .entry))) (solveAnswer (running (jobOf (now (vehicles .entry)) (now (stops .entry)) locations (now (distances .entry)) (priced linear quadratic missed)) smoothing limit (now (draws .entry)) (now (plan .entry)))) (now (plan .exit)) ⌝ }
+    ensures { λ r. ⌜ HandsRun (running (jobOf (now (vehicles .entry)) (now (stops .entry)) locations (now (distances .entry)) (priced linear quadratic missed)) smoothing limit (now (draws .entry)) (now (plan .entry))) r
+        (results (now (start .entry)) (now (end .entry)) (now (rounds .entry)) (now (improving .entry)) (now (settled .entry)))
+        (results (now (start .exit)) (now (end .exit)) (now (rounds .exit)) (now (improving .exit)) (now (settled .exit)))
+        (now (plan .exit)) ⌝ }
 {
     let prices = Prices {
         linear,

@@ -6,8 +6,8 @@ use mathlib.Core.List.{[], _∷_}
 use lib.ListN.{length, length-append, getD}
 use Rattle.model.specs.Lists.{concat}
 use Rattle.model.specs.Whole.{exact}
-use Rattle.model.specs.Job.{Job, vehicleCount, stopCount, entry, distance}
-use Rattle.model.specs.Plan.{Plan, placed, Sizes}
+use Rattle.model.specs.Job.{Job, stopCount, entry, distance}
+use Rattle.model.specs.Plan.{Plan, placed}
 use Rattle.model.specs.Legs.{Affordable}
 use Rattle.model.specs.Cost.{routeLength, price, drivingFrom, cost}
 use Rattle.model.proofs.Cost.{driving-nil, driving-cons, drivingCost-is, cost-is, routeLength-le}

@@ -1,22 +1,19 @@
 -- Demand 3: what is promised of every accepted run with a vehicle and two or more stops, whatever its draws are.
 use mathlib.Core.Path.{_≡_, _∙_}
-use mathlib.Core.Bool.{true, false, _&&_, and-eq-true-iff}
+use mathlib.Core.Bool.{true, and-eq-true-iff}
 use mathlib.Core.List.{List}
-use Prim.Native.Nat.{ℕ, _+_, _≤_, _<_}
+use Prim.Native.Nat.{ℕ, _≤_, _<_}
 use native.Mathlib.Nat.{le-trans}
 use native.Mathlib.Omega.{arith}
 use borrow.Author.Tests.{leb-true}
 use lib.Dec.{leb}
 use lib.ListN.{length}
-use Rattle.model.specs.Lists.{concat, count, Once}
-use Rattle.model.specs.Whole.{exact}
+use Rattle.model.specs.Lists.{concat, Once}
 use Rattle.model.specs.Job.{Job, vehicleCount, stopCount}
-use Rattle.model.specs.Plan.{Plan, Sizes}
-use Rattle.model.specs.Cost.{cost}
+use Rattle.model.specs.Plan.{Plan}
 use Rattle.model.specs.Nearest.{startPlan}
-use Rattle.model.specs.TwoOpt.{twoOptPass}
 use Rattle.model.specs.Rebuild.{rebuild}
-use Rattle.model.specs.Run.{Task, State, startState, roundFrom}
+use Rattle.model.specs.Run.{Task, State, roundFrom}
 use Rattle.model.specs.Calls.{hasRounds, roundsOf, finalState, totals}
 use Rattle.model.specs.Promise.{sufficient, Promise}
 use Rattle.model.proofs.Counts.{Below, once-few}

@@ -1,4 +1,3 @@
--- `call_refusals::of_entries` meets its contract. Assumes nothing.
 use Rattle.call_refusals.specs.Order.{ofEntries}
 use Rattle.call_tests.proofs.Laws.{said}
 use borrow.Author.Needs.{needs}

@@ -1,4 +1,3 @@
--- `call_refusals::of_exhaustive` meets its contract. Assumes nothing.
 use mathlib.Core.Path.{refl, sym, _∙_}
 use borrow.Author.Needs.{needs}
 use Rattle.call_refusals.proofs.Order.{exhaustive-order, said-first, passed-first, taken, left}

@@ -1,4 +1,3 @@
--- `call_refusals::of_job` meets its contract. Assumes nothing.
 use mathlib.Core.Path.{refl, _∙_}
 use borrow.Author.Needs.{needs}
 use Rattle.call_refusals.proofs.Order.{job-order, said-first, passed-first, taken, left}

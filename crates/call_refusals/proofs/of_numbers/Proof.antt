@@ -1,4 +1,3 @@
--- `call_refusals::of_numbers` meets its contract. Assumes nothing.
 use borrow.Author.Needs.{needs}
 use Rattle.call_refusals.specs.Order.{ofNumbers}
 use Rattle.call_tests.proofs.Laws.{said}

@@ -1,4 +1,3 @@
--- `call_refusals::of_rebuild` meets its contract. Assumes nothing.
 use mathlib.Core.Path.{refl, sym, _∙_}
 use borrow.Author.Needs.{needs}
 use Rattle.model.specs.Refusals.{Weigh}

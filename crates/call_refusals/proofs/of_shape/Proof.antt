@@ -1,4 +1,3 @@
--- `call_refusals::of_shape` meets its contract. Assumes nothing.
 use Rattle.call_refusals.specs.Order.{ofShape}
 use Rattle.call_tests.proofs.Laws.{said, few-vehicles, few-stops}
 use borrow.Author.Needs.{needs}

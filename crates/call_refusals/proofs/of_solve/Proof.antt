@@ -1,4 +1,3 @@
--- `call_refusals::of_solve` meets its contract. Assumes nothing.
 use mathlib.Core.Path.{sym, _∙_}
 use borrow.Author.Needs.{needs}
 use Rattle.call_refusals.proofs.Order.{solve-order, said-first, passed-first, taken, left}

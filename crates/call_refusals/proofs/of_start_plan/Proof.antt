@@ -1,4 +1,3 @@
--- `call_refusals::of_start_plan` meets its contract. Assumes nothing.
 use mathlib.Core.Path.{sym, _∙_}
 use borrow.Author.Needs.{needs}
 use Rattle.call_refusals.proofs.Order.{start-order, said-first, passed-first}

@@ -1,4 +1,4 @@
--- `call_tests::all_below` meets its contract. The rest of the list says what the whole list says. Assumes nothing.
+-- The rest of the list says what the whole list says.
 use mathlib.Core.Path.{_≡_, sym, _∙_}
 use Prim.Native.Nat.{_≤_, _-_}
 use native.Mathlib.Omega.{arith}

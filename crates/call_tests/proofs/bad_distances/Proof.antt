@@ -1,4 +1,3 @@
--- `call_tests::bad_distances` meets its contract. Assumes nothing.
 use Rattle.model.specs.Refusals.{badDistances}
 use borrow.Author.Needs.{needs}
 use Rattle.call_tests.proofs.bad_distances.Statement.{statement}

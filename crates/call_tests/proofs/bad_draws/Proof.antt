@@ -1,4 +1,3 @@
--- `call_tests::bad_draws` meets its contract. Assumes nothing.
 use lib.ListN.{length}
 use borrow.Author.Tests.{lt-leb, le-leb}
 use Rattle.model.specs.Refusals.{badDraws}

@@ -1,4 +1,3 @@
--- `call_tests::bad_given` meets its contract. Assumes nothing.
 use mathlib.Core.Path.{_∙_, ap}
 use mathlib.Core.Bool.{not}
 use Rattle.call_tests.proofs.Laws.{no-stop, over-two, one-or-two}

@@ -1,4 +1,3 @@
--- `call_tests::bad_length` meets its contract. Assumes nothing.
 use mathlib.Core.Path.{refl}
 use borrow.Author.Needs.{needs}
 use Rattle.model.specs.Refusals.{badLength}

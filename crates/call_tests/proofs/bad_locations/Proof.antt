@@ -1,4 +1,3 @@
--- `call_tests::bad_locations` meets its contract. Assumes nothing.
 use Rattle.model.specs.Refusals.{badLocations}
 use Rattle.call_tests.proofs.Laws.{said}
 use borrow.Author.Needs.{needs}

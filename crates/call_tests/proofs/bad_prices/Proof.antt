@@ -1,4 +1,3 @@
--- `call_tests::bad_prices` meets its contract. Assumes nothing.
 use borrow.Author.Tests.{lt-ltb, le-ltb}
 use Rattle.model.specs.Refusals.{badPrices}
 use Rattle.call_tests.proofs.bad_prices.Statement.{statement}

@@ -1,4 +1,3 @@
--- `call_tests::bad_smoothing` meets its contract. Assumes nothing.
 use borrow.Author.Tests.{lt-leb, le-leb}
 use Rattle.model.specs.Refusals.{badSmoothing}
 use Rattle.call_tests.proofs.Laws.{over}

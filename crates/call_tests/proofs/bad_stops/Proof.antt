@@ -1,4 +1,3 @@
--- `call_tests::bad_stops` meets its contract. Assumes nothing.
 use mathlib.Core.Path.{refl}
 use Rattle.model.specs.Refusals.{badStops}
 use Rattle.call_tests.proofs.bad_stops.Statement.{statement}

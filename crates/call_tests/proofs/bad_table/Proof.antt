@@ -1,4 +1,3 @@
--- `call_tests::bad_table` meets its contract. Assumes nothing.
 use borrow.Author.Tests.{lt-ltb, le-ltb}
 use Rattle.model.specs.Refusals.{badTable}
 use Rattle.call_tests.proofs.Laws.{square}

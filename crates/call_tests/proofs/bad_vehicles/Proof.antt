@@ -1,4 +1,3 @@
--- `call_tests::bad_vehicles` meets its contract. Assumes nothing.
 use borrow.Author.Tests.{eq-eqb, ne-eqb}
 use Rattle.model.specs.Refusals.{badVehicles}
 use Rattle.call_tests.proofs.bad_vehicles.Statement.{statement}

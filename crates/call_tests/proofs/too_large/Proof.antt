@@ -1,4 +1,3 @@
--- `call_tests::too_large` meets its contract. Assumes nothing.
 use borrow.Author.Tests.{lt-ltb, le-ltb}
 use Rattle.model.specs.Refusals.{tooLarge}
 use Rattle.call_tests.proofs.too_large.Statement.{statement}

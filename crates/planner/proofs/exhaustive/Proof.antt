@@ -1,11 +1,10 @@
--- `planner::exhaustive` meets its contract. Assumes nothing.
 use mathlib.Core.Path.{_≡_, refl, sym, _∙_}
 use mathlib.Core.List.{[]}
 use Rattle.model.specs.Job.{jobOf}
 use Rattle.model.specs.Refusals.{Arguments, asking, Exhaustive, refusal}
 use Rattle.model.specs.Calls.{made}
 use Rattle.call_refusals.proofs.Accepted.{listed, affordable, small}
-use Rattle.call_refusals.proofs.Answers.{refused, accepted, left-alone, left-new}
+use Rattle.planner.proofs.Saying.{weighs-refused, weighs-accepted}
 use borrow.Author.Needs.{needs}
 use Rattle.planner.proofs.exhaustive.Statement.{statement}
 use Rattle.planner.proofs.exhaustive.Tie as tie
@@ -30,9 +29,7 @@ same-length : tie.Need-same-length
 same-length c = search needs
 
 returns : tie.Need-returns
-returns c =
-    let A = given (c .before) in
-    (refused Exhaustive A _ (said (c .before)) (c .if1 .taken), left-alone Exhaustive A _ (said (c .before)) (c .if1 .taken))
+returns c = weighs-refused Exhaustive (given (c .before)) refl _ (said (c .before)) (c .if1 .taken)
 
 slice-aggregate-leg-table : tie.Need-slice-aggregate-leg-table
 slice-aggregate-leg-table c = search needs
@@ -61,7 +58,7 @@ returns-2 c =
     let A = given (l .before .before .before) in
     let e = not-refused (l .before .before) in
     let d = c .before .before .exhaustive .ensures (A .job) (l .leg-table .ensures .fits (A .job .prices)) in
-    (accepted Exhaustive A _ (sym e) (d .1), left-new Exhaustive A _ (sym e) (d .0))
+    weighs-accepted Exhaustive A refl _ _ e (d .1) (d .0)
 
 pub exhaustive-spec : {M : Type 1} → statement M
 exhaustive-spec =

@@ -1,4 +1,3 @@
--- `planner::pruned` meets its contract. Assumes nothing.
 use mathlib.Core.Path.{_≡_, refl, sym, _∙_}
 use mathlib.Core.List.{[]}
 use Rattle.model.specs.Job.{jobOf}
@@ -6,7 +5,7 @@ use Rattle.model.specs.Refusals.{Arguments, asking, Pruned, refusal}
 use Rattle.model.specs.Calls.{made}
 use Rattle.call_refusals.proofs.Order.{pruned-order}
 use Rattle.call_refusals.proofs.Accepted.{listed, affordable, small}
-use Rattle.call_refusals.proofs.Answers.{refused, accepted, left-alone, left-new}
+use Rattle.planner.proofs.Saying.{weighs-refused, weighs-accepted}
 use borrow.Author.Needs.{needs}
 use Rattle.planner.proofs.pruned.Statement.{statement}
 use Rattle.planner.proofs.pruned.Tie as tie
@@ -31,9 +30,7 @@ same-length : tie.Need-same-length
 same-length c = search needs
 
 returns : tie.Need-returns
-returns c =
-    let A = given (c .before) in
-    (refused Pruned A _ (said (c .before)) (c .if1 .taken), left-alone Pruned A _ (said (c .before)) (c .if1 .taken))
+returns c = weighs-refused Pruned (given (c .before)) refl _ (said (c .before)) (c .if1 .taken)
 
 slice-aggregate-leg-table : tie.Need-slice-aggregate-leg-table
 slice-aggregate-leg-table c = search needs
@@ -62,7 +59,7 @@ returns-2 c =
     let A = given (l .before .before .before) in
     let e = not-refused (l .before .before) in
     let d = c .before .before .pruned .ensures (A .job) (l .leg-table .ensures .fits (A .job .prices)) in
-    (accepted Pruned A _ (sym e) (d .1), left-new Pruned A _ (sym e) (d .0))
+    weighs-accepted Pruned A refl _ _ e (d .1) (d .0)
 
 pub pruned-spec : {M : Type 1} → statement M
 pruned-spec =

@@ -1,10 +1,9 @@
--- `planner::rebuild` meets its contract. Assumes nothing.
 use mathlib.Core.Path.{_≡_, refl, sym, _∙_}
 use Rattle.model.specs.Job.{jobOf}
 use Rattle.model.specs.Refusals.{Arguments, asking, Rebuild, refusal}
 use Rattle.model.specs.Calls.{made}
 use Rattle.call_refusals.proofs.Accepted.{listed, affordable, lent, stops}
-use Rattle.call_refusals.proofs.Answers.{refused, accepted, left-alone, left-new}
+use Rattle.planner.proofs.Saying.{weighs-refused, weighs-accepted}
 use borrow.Author.Needs.{needs}
 use Rattle.planner.proofs.rebuild.Statement.{statement}
 use Rattle.planner.proofs.rebuild.Tie as tie
@@ -29,9 +28,7 @@ same-length : tie.Need-same-length
 same-length c = search needs
 
 returns : tie.Need-returns
-returns c =
-    let A = given (c .before) in
-    (refused Rebuild A _ (said (c .before)) (c .if1 .taken), left-alone Rebuild A _ (said (c .before)) (c .if1 .taken))
+returns c = weighs-refused Rebuild (given (c .before)) refl _ (said (c .before)) (c .if1 .taken)
 
 slice-aggregate-leg-table : tie.Need-slice-aggregate-leg-table
 slice-aggregate-leg-table c = search needs
@@ -60,7 +57,7 @@ returns-2 c =
     let e = not-refused (l .before .before) in
     let d = c .before .before .rebuild .ensures in
     let f = l .leg-table .ensures .fits (A .job .prices) in
-    (accepted Rebuild A _ (sym e) (d .cost (A .job) f), left-new Rebuild A _ (sym e) (d .plan (A .job) f))
+    weighs-accepted Rebuild A refl _ _ e (d .cost (A .job) f) (d .plan (A .job) f)
 
 pub rebuild-spec : {M : Type 1} → statement M
 rebuild-spec =

@@ -1,11 +1,9 @@
--- `planner::solve` meets its contract. Assumes nothing.
 use mathlib.Core.Path.{_≡_, refl, sym, _∙_}
 use Rattle.model.specs.Job.{jobOf}
 use Rattle.model.specs.Refusals.{Arguments, Solve, refusal, running}
 use Rattle.model.specs.Calls.{made}
 use Rattle.call_refusals.proofs.Accepted.{listed, affordable, drawable, smooth}
-use Rattle.call_refusals.proofs.Answers.{left-alone, left-new}
-use Rattle.planner.proofs.Solving.{solve-refused, solve-accepted, keeps}
+use Rattle.planner.proofs.Saying.{solves-refused, solves-accepted}
 use borrow.Author.Needs.{needs}
 use Rattle.planner.proofs.solve.Statement.{statement}
 use Rattle.planner.proofs.solve.Tie as tie
@@ -30,11 +28,7 @@ same-length : tie.Need-same-length
 same-length c = search needs
 
 returns : tie.Need-returns
-returns c =
-    let A = given (c .before) in
-    let r = solve-refused A _ (said (c .before)) (c .if1 .taken) in
-    let p = left-alone Solve A _ (said (c .before)) (c .if1 .taken) in
-    (r, (p, keeps A _ _ r p))
+returns c = solves-refused (given (c .before)) _ (said (c .before)) (c .if1 .taken)
 
 slice-aggregate-leg-table : tie.Need-slice-aggregate-leg-table
 slice-aggregate-leg-table c = search needs
@@ -70,9 +64,7 @@ returns-2 c =
     let A = given (l .before .before .before) in
     let e = not-refused (l .before .before) in
     let d = c .before .before .run .ensures (A .job) (l .leg-table .ensures .fits (A .job .prices)) in
-    let r = solve-accepted A _ e (d .0) in
-    let p = left-new Solve A _ (sym e) (d .1) in
-    (r, (p, keeps A _ _ r p))
+    solves-accepted A _ _ e (d .0) (d .1)
 
 pub solve-spec : {M : Type 1} → statement M
 solve-spec =

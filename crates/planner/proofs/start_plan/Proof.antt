@@ -1,11 +1,10 @@
--- `planner::start_plan` meets its contract. Assumes nothing.
 use mathlib.Core.Path.{_≡_, sym, _∙_}
 use mathlib.Core.List.{[]}
 use Rattle.model.specs.Job.{jobOf}
 use Rattle.model.specs.Refusals.{Arguments, asking, StartPlan, refusal, unpriced}
 use Rattle.model.specs.Calls.{made}
 use Rattle.call_refusals.proofs.Accepted.{listed}
-use Rattle.call_refusals.proofs.Answers.{start-refused, start-accepted, left-alone, left-new}
+use Rattle.planner.proofs.Saying.{writes-refused, writes-accepted}
 use borrow.Author.Needs.{needs}
 use Rattle.planner.proofs.start_plan.Statement.{statement}
 use Rattle.planner.proofs.start_plan.Tie as tie
@@ -30,9 +29,7 @@ same-length : tie.Need-same-length
 same-length c = search needs
 
 returns : tie.Need-returns
-returns c =
-    let A = given (c .before) in
-    (start-refused A _ (said (c .before)) (c .if1 .taken), left-alone StartPlan A _ (said (c .before)) (c .if1 .taken))
+returns c = writes-refused (given (c .before)) _ (said (c .before)) (c .if1 .taken)
 
 slice-aggregate-leg-table : tie.Need-slice-aggregate-leg-table
 slice-aggregate-leg-table c = search needs
@@ -59,7 +56,7 @@ returns-2 c =
     let A = given (l .before .before .before) in
     let e = not-refused (l .before .before) in
     let d = c .before .before .start-plan .ensures .start (A .job) unpriced (l .leg-table .ensures .fits unpriced) in
-    (start-accepted A (sym e), left-new StartPlan A _ (sym e) d)
+    writes-accepted A _ e d
 
 pub start-plan-spec : {M : Type 1} → statement M
 start-plan-spec =

@@ -1,4 +1,3 @@
--- `planner::two_opt` meets its contract. Assumes nothing.
 use mathlib.Core.Path.{_≡_, refl, sym, _∙_}
 use mathlib.Core.List.{[], _∷_}
 use Rattle.model.specs.Job.{jobOf}
@@ -6,7 +5,7 @@ use Rattle.model.specs.Refusals.{Arguments, asking, TwoOpt, refusal}
 use Rattle.model.specs.Calls.{made}
 use Rattle.call_refusals.proofs.Order.{two-opt-order}
 use Rattle.call_refusals.proofs.Accepted.{listed, affordable, lent, stops}
-use Rattle.call_refusals.proofs.Answers.{refused, accepted, left-alone, left-new}
+use Rattle.planner.proofs.Saying.{weighs-refused, weighs-accepted}
 use Rattle.planner.proofs.Pair.{apart, pair-weighed}
 use borrow.Author.Needs.{needs}
 use Rattle.planner.proofs.two_opt.Statement.{statement}
@@ -35,9 +34,7 @@ same-length : tie.Need-same-length
 same-length c = search needs
 
 returns : tie.Need-returns
-returns c =
-    let A = given (c .before) in
-    (refused TwoOpt A _ (said (c .before)) (c .if1 .taken), left-alone TwoOpt A _ (said (c .before)) (c .if1 .taken))
+returns c = weighs-refused TwoOpt (given (c .before)) refl _ (said (c .before)) (c .if1 .taken)
 
 slice-aggregate-leg-table : tie.Need-slice-aggregate-leg-table
 slice-aggregate-leg-table c = search needs
@@ -79,7 +76,7 @@ returns-2 c =
     let f = l .leg-table .ensures .fits (A .job .prices) in
     let d = m .pair .ensures .0 (A .job) f in
     let w = pair-weighed (A .job) _ _ _ _ _ _ _ (lent TwoOpt A e refl) (apart _ _ (stops TwoOpt A e refl .once)) d (c .cost .ensures .job (A .job) f) in
-    (accepted TwoOpt A _ (sym e) w, left-new TwoOpt A _ (sym e) d)
+    weighs-accepted TwoOpt A refl _ _ e w d
 
 pub two-opt-spec : {M : Type 1} → statement M
 two-opt-spec =

@@ -1,11 +1,10 @@
--- `planner::weigh` meets its contract. Assumes nothing.
 use mathlib.Core.Path.{_≡_, refl, sym, _∙_}
 use mathlib.Core.List.{[]}
 use Rattle.model.specs.Job.{jobOf}
 use Rattle.model.specs.Refusals.{Arguments, asking, Weigh, refusal}
 use Rattle.model.specs.Calls.{made}
 use Rattle.call_refusals.proofs.Accepted.{listed, affordable, lent}
-use Rattle.call_refusals.proofs.Answers.{refused, accepted}
+use Rattle.planner.proofs.Saying.{weighs-refused, weighs-accepted}
 use borrow.Author.Needs.{needs}
 use Rattle.planner.proofs.weigh.Statement.{statement}
 use Rattle.planner.proofs.weigh.Tie as tie
@@ -27,7 +26,7 @@ of-weigh-requires : tie.Need-of-weigh-requires
 of-weigh-requires c κs = search needs
 
 returns : tie.Need-returns
-returns c = refused Weigh (given (c .before)) _ (said (c .before)) (c .if1 .taken)
+returns c = weighs-refused Weigh (given (c .before)) refl _ (said (c .before)) (c .if1 .taken)
 
 slice-aggregate-leg-table : tie.Need-slice-aggregate-leg-table
 slice-aggregate-leg-table c = search needs
@@ -50,7 +49,8 @@ unfolding made
 returns-2 c =
     let l = c .before .before .before in
     let A = given (l .before .before .before) in
-    accepted Weigh A _ (sym (not-refused (l .before .before))) (c .cost .ensures .job (A .job) (l .leg-table .ensures .fits (A .job .prices)))
+    let e = not-refused (l .before .before) in
+    weighs-accepted Weigh A refl _ _ e (c .cost .ensures .job (A .job) (l .leg-table .ensures .fits (A .job .prices))) (lent Weigh A e refl .form)
 
 pub weigh-spec : {M : Type 1} → statement M
 weigh-spec =

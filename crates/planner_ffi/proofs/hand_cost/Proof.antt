@@ -1,4 +1,3 @@
--- `planner_ffi::hand_cost` meets its contract.
 use borrow.Author.Needs.{needs}
 use Rattle.planner_ffi.proofs.Handed.{refused-cost, accepted-cost}
 use Rattle.planner_ffi.proofs.hand_cost.Statement.{statement}

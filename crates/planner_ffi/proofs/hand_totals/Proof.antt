@@ -1,4 +1,3 @@
--- `planner_ffi::hand_totals` meets its contract.
 use borrow.Author.Needs.{needs}
 use Rattle.planner_ffi.proofs.Handed.{refused-run, accepted-run}
 use Rattle.planner_ffi.proofs.hand_totals.Statement.{statement}

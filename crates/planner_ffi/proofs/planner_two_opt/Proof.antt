@@ -1,6 +1,6 @@
--- `planner_ffi::planner_two_opt` meets its contract.
 use borrow.Author.Needs.{needs}
-use Rattle.planner_ffi.proofs.Handed.{same-number, same-cost}
+use Rattle.model.specs.Refusals.{TwoOpt}
+use Rattle.planner_ffi.proofs.Handed.{hands-cost}
 use Rattle.planner_ffi.proofs.planner_two_opt.Statement.{statement}
 use Rattle.planner_ffi.proofs.planner_two_opt.Tie as tie
 
@@ -14,9 +14,7 @@ same-length : tie.Need-same-length
 same-length c = search needs
 
 returns : tie.Need-returns
-returns c =
-    let f = c .before .before .before .before .two-opt .ensures in
-    (same-number _ _ (f .0) _ (c .hand-cost .ensures .0), (same-cost _ _ (f .0) _ _ (c .hand-cost .ensures .1), f .1))
+returns c = hands-cost TwoOpt _ _ _ (c .before .before .before .before .two-opt .ensures) _ _ _ (c .hand-cost .ensures .0) (c .hand-cost .ensures .1)
 
 pub planner-two-opt-spec : {M : Type 1} → statement M
 planner-two-opt-spec = tie.close (tie.spec two-opt-requires hand-cost-requires same-length returns)

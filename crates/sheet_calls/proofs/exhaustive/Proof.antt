@@ -11,7 +11,7 @@ exhaustive-requires : tie.Need-exhaustive-requires
 exhaustive-requires c κs = search needs
 
 print-weighed-requires : tie.Need-print-weighed-requires
-print-weighed-requires c κs = (search needs, exactly Exhaustive _ _ refl (c .before .before .before .before .exhaustive .ensures .0))
+print-weighed-requires c κs = (search needs, exactly Exhaustive _ _ refl (c .before .before .before .before .exhaustive .ensures .answer))
 
 same-length : tie.Need-same-length
 same-length c = search needs
@@ -22,7 +22,7 @@ same-length-2 c = search needs
 returns : tie.Need-returns
 returns c =
     let f = c .before .before .before .before .before .before .before .exhaustive .ensures in
-    (shown-weighed _ _ _ _ _ _ (f .0) (c .before .before .print-weighed .ensures), f .1)
+    (shown-weighed _ _ _ _ _ _ (f .answer) (c .before .before .print-weighed .ensures), f .plan)
 
 pub exhaustive-spec : {M : Type 1} → statement M
 exhaustive-spec =

@@ -21,20 +21,20 @@ enum-known-c : tie.Need-enum-known-c
 enum-known-c c = search needs
 
 print-cost-requires : tie.Need-print-cost-requires
-print-cost-requires c κs = (omega arith, exactly Weigh _ _ refl (c .before .before .before .before .weigh .ensures) _ (c .before .before .c .given .1))
+print-cost-requires c κs = (omega arith, exactly Weigh _ _ refl (c .before .before .before .before .weigh .ensures .answer) _ (c .before .before .c .given .1))
 
 same-length : tie.Need-same-length
 same-length c = search needs
 
 returns : tie.Need-returns
 returns c =
-    shown-weight _ _ _ _ _ (sym (c .before .before .before .before .before .number .given .1) ∙ c .before .before .before .before .before .before .before .weigh .ensures) (c .before .before .print-refusal .ensures)
+    shown-weight _ _ _ _ _ (sym (c .before .before .before .before .before .number .given .1) ∙ c .before .before .before .before .before .before .before .weigh .ensures .answer) (c .before .before .print-refusal .ensures)
 
 same-length-2 : tie.Need-same-length-2
 same-length-2 c = search needs
 
 returns-2 : tie.Need-returns-2
-returns-2 c = shown-weight _ _ _ _ _ (sym (c .before .before .before .before .before .c .given .1) ∙ c .before .before .before .before .before .before .before .weigh .ensures) (c .before .before .print-cost .ensures)
+returns-2 c = shown-weight _ _ _ _ _ (sym (c .before .before .before .before .before .c .given .1) ∙ c .before .before .before .before .before .before .before .weigh .ensures .answer) (c .before .before .print-cost .ensures)
 
 pub weigh-spec : {M : Type 1} → statement M
 weigh-spec =

@@ -22,8 +22,8 @@ print-run-requires : tie.Need-print-run-requires
 print-run-requires c κs =
     let k = c .before .before .before in
     let s = k .before .before .before .before in
-    let e = sym (k .t .given .1) ∙ s .solve .ensures .0 in
-    (record { sizes = ran-sizes _ _ e; form = ran-lent _ _ e _ (s .solve .ensures .1 .0); room = omega arith }, ran-priced _ _ e)
+    let e = sym (k .t .given .1) ∙ s .solve .ensures .answer in
+    (record { sizes = ran-sizes _ _ e; form = ran-lent _ _ e _ (s .solve .ensures .plan); room = omega arith }, ran-priced _ _ e)
 
 same-length : tie.Need-same-length
 same-length c = search needs
@@ -35,7 +35,7 @@ returns : tie.Need-returns
 returns c =
     let k = c .before .before .before .before .before in
     let s = k .before .before .before .before in
-    refused-printed _ _ _ _ _ (s .before .before .before .before .before .before .before .before .pre .blank) _ (s .solve .ensures .0) _ _ _ _
+    refused-printed _ _ _ _ _ (s .before .before .before .before .before .before .before .before .pre .blank) _ (s .solve .ensures .answer) _ _ _ _
     (k .number .given .1) (c .before .before .print-refusal .ensures)
 
 same-length-3 : tie.Need-same-length-3
@@ -48,8 +48,8 @@ returns-2 : tie.Need-returns-2
 returns-2 c =
     let k = c .before .before .before .before .before .before in
     let s = k .before .before .before .before in
-    run-printed _ _ _ _ _ (s .before .before .before .before .before .before .before .before .pre .blank) _ (s .solve .ensures .0) _ _ _ _ _
-    (k .t .given .1) (s .solve .ensures .1 .0) (c .before .before .print-run .ensures)
+    run-printed _ _ _ _ _ (s .before .before .before .before .before .before .before .before .pre .blank) _ (s .solve .ensures .answer) _ _ _ _ _
+    (k .t .given .1) (s .solve .ensures .plan) (c .before .before .print-run .ensures)
 
 pub run-spec : {M : Type 1} → statement M
 run-spec =
