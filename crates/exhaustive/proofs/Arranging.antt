@@ -1,4 +1,4 @@
--- The arrangements of the full plan are all arrangements of the stops on the vehicles. Assumes nothing.
+-- The arrangements of the full plan are all arrangements of the stops on the vehicles.
 use Prim.Native.Nat.{ℕ, zero, suc, _≤_, _<_}
 use native.Mathlib.Omega.{arith}
 use native.Mathlib.Nat.{sub-zero}
@@ -8,14 +8,14 @@ use mathlib.Core.Logic.{inl, inr}
 use mathlib.Core.List.{List, [], _∷_, append-nil, map}
 use lib.ListN.{length, take, drop, length-replicate, drop-of-length-le}
 use lib.Seq.{take-all}
-use Rattle.model.specs.Lists.{concat, count, upFrom, Once}
+use Rattle.model.specs.Lists.{In, concat, count, upFrom, Once}
 use Rattle.model.specs.Job.{Job, stopCount, vehicleCount}
 use Rattle.model.specs.Plan.{Plan}
-use Rattle.model.specs.Region.{Region, drained}
+use Rattle.model.specs.declared.Region.{Region}
+use Rattle.model.specs.Region.{drained}
 use Rattle.model.specs.Rebuild.{choose, fillings, replaced, arrangements, emptyPlan, allArrangements, exhaustive}
 use Rattle.model.proofs.Lists.{length-upFrom, once-upFrom, count-upFrom-out}
 use Rattle.model.proofs.Counts.{Below, concat-empty}
-use Rattle.model.proofs.Members.{In}
 use Rattle.model.proofs.Choice.{choose-same}
 use Rattle.model.proofs.Arrangements.{of-fillings, Arranges, in-all, of-all}
 use Rattle.model.proofs.Exact.{empty-arranges}

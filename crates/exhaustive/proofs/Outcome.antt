@@ -1,26 +1,26 @@
--- The best arrangement of the full plan is the exhaustive solver's. Assumes nothing.
+-- The best arrangement of the full plan is the exhaustive solver's.
 use Prim.Native.Nat.{ℕ, zero, suc, _*_, _≤_}
 use native.Mathlib.Omega.{arith}
 use mathlib.Core.Path.{_≡_, refl}
 use mathlib.Core.Logic.{inl, inr}
 use mathlib.Core.List.{List, [], _∷_}
 use lib.ListN.{length}
+use Rattle.model.specs.Lists.{In}
 use Rattle.model.specs.Whole.{whole}
 use Rattle.model.specs.Job.{Job}
 use Rattle.model.specs.Plan.{encode, decode}
-use Rattle.model.specs.Region.{Region}
-use Rattle.model.specs.Legs.{Fits}
+use Rattle.model.specs.declared.Region.{Region}
+use Rattle.model.specs.Region.{Stretch, Stretches}
+use Rattle.model.specs.Legs.{Fits, Solvable}
 use Rattle.model.specs.Cost.{cost}
 use Rattle.model.specs.Rebuild.{exhaustive}
 use Rattle.model.specs.declared.Prices.{Prices}
 use Rattle.model.proofs.Lists.{length-upFrom}
-use Rattle.model.proofs.Members.{In}
-use Rattle.model.proofs.Regions.{Stretch, Stretches}
 use Rattle.model.proofs.PlanForm.{decode-encode, lent-encode}
 use Rattle.rebuild_words.specs.Gaps.{regionsOf}
 use Rattle.rebuild_choice.specs.declared.Score.{Score}
 use Rattle.rebuild_arrange.specs.Arranged.{Arrangeable, Arranged}
-use Rattle.exhaustive.specs.Full.{fullPlan, fullRegions, Given}
+use Rattle.exhaustive.specs.Full.{fullPlan, fullRegions}
 use Rattle.exhaustive.proofs.Arranging.{regions-each, length-full, once-full, below-full, drained-full, full-chosen}
 
 -- three numbers for each region
@@ -77,7 +77,7 @@ stretches (suc (suc (suc zero))) n h = record { apart = (apart, (apart-two, (λ 
     three g (inr (inr (inr i))) = absurd i
 stretches (suc (suc (suc (suc v)))) n h = absurd (omega arith)
 
-module _ (t : List ℕ) (v n : ℕ) (p : Prices) (zs : List ℕ) (G : Given t v n p zs) (xs : List ℕ) (e : xs ≡ encode n (fullPlan v n)) where
+module _ (t : List ℕ) (v n : ℕ) (p : Prices) (zs : List ℕ) (G : Solvable t v n p zs) (xs : List ℕ) (e : xs ≡ encode n (fullPlan v n)) where
   decoded : decode v xs ≡ fullPlan v n
   decoded = rw e (decode-encode n (fullPlan v n) v (length-full n v))
 

@@ -1,4 +1,4 @@
--- The full plan as it is written. Assumes nothing.
+-- The full plan as it is written.
 use Prim.Native.Nat.{ℕ, zero, suc, _+_, _-_, _≤_}
 use native.Mathlib.Omega.{arith}
 use native.Mathlib.Nat.{le-of-suc-le-suc, sub-zero}

@@ -5,10 +5,10 @@ ghost use lib.ListN.{length};
 ghost use Rattle.model.specs.Whole.{whole};
 ghost use Rattle.model.specs.Job.{Job};
 ghost use Rattle.model.specs.Plan.{encode};
-ghost use Rattle.model.specs.Legs.{Fits};
+ghost use Rattle.model.specs.Legs.{Fits, Solvable};
 ghost use Rattle.model.specs.Cost.{cost};
 ghost use Rattle.model.specs.Rebuild.{exhaustive};
-ghost use Rattle.exhaustive.specs.Full.{fullPlan, Given};
+ghost use Rattle.exhaustive.specs.Full.{fullPlan};
 use model::Prices;
 
 // Writes the plan with every stop on the first vehicle, where there is one.
@@ -27,12 +27,12 @@ fn full(plan: &mut [u32], v: usize, n: usize)
 
 // Writes the plan that the exhaustive solver chooses, and returns its cost.
 pub fn exhaustive(legs: &[u32], v: usize, n: usize, prices: Prices, plan: &mut [u32]) -> f64
-    requires { ⌜ Given (now legs) v n prices (now plan) ⌝ }
+    requires { ⌜ Solvable (now legs) v n prices (now plan) ⌝ }
     ensures { λ r. ⌜ ((J : Job) → Fits J (now (legs .entry)) v n prices → (now (plan .exit) ≡ encode n (exhaustive J)) × (r ≡ whole (cost J (exhaustive J)))) ⌝ }
 {
     full(plan, v, n);
     let regions = [0u32, 0, n as u32, 1, 0, 0, 2, 0, 0];
     let end = 3 * v;
-    let score = rebuild::rearrange(legs, v, n, prices, plan, &regions[..end]);
+    let score = rebuild_arrange::rearrange(legs, v, n, prices, plan, &regions[..end]);
     score.cost
 }

@@ -6,15 +6,15 @@ use mathlib.Core.Path.{_≡_, refl, sym, ap, ap₂, _∙_}
 use mathlib.Core.Logic.{inl, inr}
 use mathlib.Core.List.{List, [], _∷_, _++_, map, head-eq-of-cons-eq, tail-eq-of-cons-eq, nil≢cons}
 use lib.ListN.{length, take, drop, replicate, length-replicate}
-use Rattle.model.specs.Lists.{concat, without, count, Once, upFrom, change}
+use Rattle.model.specs.Lists.{In, Distinct, concat, without, count, Once, upFrom, change}
 use Rattle.model.specs.Job.{Job, stopCount, vehicleCount}
 use Rattle.model.specs.Plan.{Plan, Route, routeOf}
-use Rattle.model.specs.Region.{Region, drainedFrom, drained}
+use Rattle.model.specs.Region.{Region, drainedFrom, drained, vehiclesOf, Stretches}
 use Rattle.model.specs.Rebuild.{sequences, fillings, replaced, arrangements, Arrangement, allArrangements}
 use Rattle.model.proofs.Lists.{count-append, count-without, count-member, one-same, length-change, getD-change-other, change-none, part-split, count-upFrom-out, once-upFrom}
 use Rattle.model.proofs.Counts.{length-le, once-le, once-without, count-change, count-split, concat-empty, Below, once-below}
-use Rattle.model.proofs.Members.{In, Distinct, in-map, of-map, in-forEach, of-forEach, distinct-map, distinct-forEach, in-count, count-in, once-distinct}
-use Rattle.model.proofs.Regions.{Stretches, first-stretch, later-stretches}
+use Rattle.model.proofs.Members.{in-map, of-map, in-forEach, of-forEach, distinct-map, distinct-forEach, in-count, count-in, once-distinct}
+use Rattle.model.proofs.Regions.{first-stretch, later-stretches}
 
 -- ---- a sequence of some of the stops
 
@@ -135,10 +135,6 @@ distinct-fillings (suc k) left o =
 -- a route with a sequence in place of a region
 abbrev pub spliced : Region → List ℕ → Route → Route
 spliced g x r = take (g .from) r ++ (x ++ drop (g .to) r)
-
--- the vehicles of regions
-abbrev pub vehiclesOf : List Region → List ℕ
-vehiclesOf gs = map (λ (g : Region). g .vehicle) gs
 
 module _ (P : Plan) where
   pub length-replaced : (gs : List Region) (fill : List (List ℕ)) → length (replaced P gs fill) ≡ length P

@@ -9,7 +9,7 @@ use Rattle.model.specs.Job.{Job}
 use Rattle.model.specs.Plan.{Plan, placed}
 use Rattle.model.specs.Cost.{cost}
 use Rattle.model.specs.Rebuild.{better, choose}
-use Rattle.model.proofs.Members.{In}
+use Rattle.model.specs.Lists.{In}
 use Rattle.model.proofs.Order.{both, unless, better-self, better-asym, better-trans, better-total, better-cases, not-better}
 
 -- every plan of a list has v routes

@@ -6,13 +6,12 @@ use mathlib.Core.Logic.{inl, inr}
 use mathlib.Core.Bool.{false}
 use mathlib.Core.List.{[], _∷_}
 use lib.ListN.{length-replicate}
-use Rattle.model.specs.Lists.{concat}
+use Rattle.model.specs.Lists.{In, concat}
 use Rattle.model.specs.Job.{Job, vehicleCount}
 use Rattle.model.specs.Plan.{Plan, placed}
 use Rattle.model.specs.Cost.{cost}
 use Rattle.model.specs.Rebuild.{better, emptyPlan, allArrangements, exhaustive}
 use Rattle.model.proofs.Counts.{concat-empty}
-use Rattle.model.proofs.Members.{In}
 use Rattle.model.proofs.Order.{not-better}
 use Rattle.model.proofs.Choice.{Wide, Best, choose-best, choose-unique}
 use Rattle.model.proofs.Arrangements.{Arranges, in-all, of-all}

@@ -4,18 +4,8 @@ use native.Mathlib.Omega.{arith}
 use mathlib.Core.Path.{_≡_, refl, sym, ap, subst}
 use mathlib.Core.Logic.{_⊎_, inl, inr, ⊎-elim}
 use mathlib.Core.List.{List, [], _∷_, _++_, map}
-use Rattle.model.specs.Lists.{forEach, count, Once}
+use Rattle.model.specs.Lists.{In, Distinct, forEach, count, Once}
 use Rattle.model.proofs.Lists.{tested, one-same, one-other}
-
--- x stands in a list
-abbrev pub In : {A : Type 0} → A → List A → Type 0
-In x [] = ⊥
-In x (y ∷ ys) = (x ≡ y) ⊎ In x ys
-
--- nothing stands twice in a list, whatever its elements are
-abbrev pub Distinct : {A : Type 0} → List A → Type 0
-Distinct [] = Unit {0}
-Distinct (x ∷ xs) = (In x xs → ⊥) × Distinct xs
 
 -- ---- what stands in a list that is made of others
 

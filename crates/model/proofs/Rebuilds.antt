@@ -6,17 +6,17 @@ use mathlib.Core.Logic.{inl, inr}
 use mathlib.Core.Bool.{false}
 use mathlib.Core.List.{List, [], _∷_, map}
 use lib.ListN.{length, length-map}
-use Rattle.model.specs.Lists.{concat, count, Once}
+use Rattle.model.specs.Lists.{In, concat, count, Once}
 use Rattle.model.specs.Job.{Job}
 use Rattle.model.specs.Plan.{Plan}
 use Rattle.model.specs.Cost.{cost}
-use Rattle.model.specs.Region.{Region, keepPicks, regions, drainedFrom, drained}
+use Rattle.model.specs.Region.{Region, keepPicks, regions, drainedFrom, drained, Stretches}
 use Rattle.model.specs.Rebuild.{better, choose, fillings, replaced, arrangements, rebuild, Arrangement, Unbeaten}
 use Rattle.model.proofs.Counts.{Below, once-le}
-use Rattle.model.proofs.Members.{In, of-map}
+use Rattle.model.proofs.Members.{of-map}
 use Rattle.model.proofs.Order.{better-self}
 use Rattle.model.proofs.Choice.{Wide, choose-in, choose-unique, choose-least}
-use Rattle.model.proofs.Regions.{Stretches, regions-stretches}
+use Rattle.model.proofs.Regions.{regions-stretches}
 use Rattle.model.proofs.Arrangements.{of-fillings, length-replaced, replaced-few, replaced-same, once-drained, in-arrangements, of-arrangements}
 
 -- ---- of any regions

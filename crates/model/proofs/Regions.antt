@@ -1,5 +1,5 @@
 -- The regions of a rebuild: stretches of different routes of the plan.
-use Prim.Native.Nat.{ℕ, _≤_, _<_}
+use Prim.Native.Nat.{ℕ}
 use native.Mathlib.Omega.{arith}
 use mathlib.Core.Path.{_≡_, refl, sym, _∙_}
 use mathlib.Core.Logic.{inl, inr}
@@ -8,27 +8,16 @@ use mathlib.Core.List.{List, [], _∷_, map}
 use lib.Dec.{eqb}
 use lib.ListN.{length}
 use borrow.Author.Tests.{eq-eqb}
-use Rattle.model.specs.Lists.{member}
+use Rattle.model.specs.Lists.{In, Distinct, member}
 use Rattle.model.specs.Plan.{Plan, routeOf, vehicleOf, isPlaced}
-use Rattle.model.specs.Region.{Region, keepPicks, regionOf, regionSize, regions}
+use Rattle.model.specs.Region.{Region, keepPicks, regionOf, regionSize, regions, Stretch, Stretches}
 use Rattle.model.proofs.Lists.{neither, position-le}
 use Rattle.model.proofs.Locate.{vehicle-lt}
-use Rattle.model.proofs.Members.{In, Distinct, of-map}
+use Rattle.model.proofs.Members.{of-map}
 
 map-map : {A B C : Type 0} (f : B → C) (g : A → B) (xs : List A) → map f (map g xs) ≡ map (λ x. f (g x)) xs
 map-map f g [] = refl
 map-map f g (x ∷ xs) = rw (map-map f g xs)
-
--- a stretch of a route that the plan has
-pub record Stretch (P : Plan) (g : Region) : Type 0 where
-  pub known : g .vehicle < length P
-  pub ordered : g .from ≤ g .to
-  pub within : g .to ≤ length (routeOf P (g .vehicle))
-
--- stretches of routes of the plan, no two of one route
-pub record Stretches (P : Plan) (gs : List Region) : Type 0 where
-  pub apart : Distinct (map (λ (g : Region). g .vehicle) gs)
-  pub each : (g : Region) → In g gs → Stretch P g
 
 pub first-stretch : {P : Plan} {g : Region} {gs : List Region} → Stretches P (g ∷ gs) → Stretch P g
 first-stretch {g = g} d = d .each g (inl refl)

@@ -13,13 +13,13 @@ use Rattle.model.specs.Job.{Job, stopCount, locationOf, startOf, endOf, 
 use Rattle.model.specs.Plan.{Plan, Route, routeOf, placed}
 use Rattle.model.specs.Cost.{legs, routeLength, price, cost}
 use Rattle.model.specs.TwoOpt.{setRoute}
-use Rattle.model.specs.Region.{Region, regions, drained}
+use Rattle.model.specs.Region.{Region, regions, drained, Stretches}
 use Rattle.model.specs.Rebuild.{replaced, rebuild, Arrangement, Unbeaten}
 use Rattle.model.specs.Promise.{sufficient}
 use Rattle.model.proofs.Cost.{legs-nil, legs-cons, routeLength-is, routeLength-le, price-is, price-le, missedCost-is, cost-is, driving-change, routeCost}
 use Rattle.model.proofs.Counts.{placed-change, count-route, length-le, Below, once-few}
 use Rattle.model.proofs.Lists.{Tested, tested, one-same, one-other, change-same}
-use Rattle.model.proofs.Regions.{Stretches, regions-stretches, first-stretch}
+use Rattle.model.proofs.Regions.{regions-stretches, first-stretch}
 use Rattle.model.proofs.Arrangements.{spliced, length-replaced, count-replaced, drained-le, once-drained, replaced-few, arrangement-few, arrangement-of}
 use Rattle.model.proofs.Rebuilds.{rebuild-arrangement, rebuild-unbeaten}
 

@@ -1,4 +1,6 @@
 -- Lists: what the definitions beside this file need and the libraries have not.
+use mathlib.Core.Path.{_≡_}
+use mathlib.Core.Logic.{_⊎_}
 use Prim.Native.Nat.{ℕ, zero, suc, _+_, _-_, _≤_, max}
 use mathlib.Core.Bool.{Bool, true, false, cond, _||_, not, _&&_}
 use mathlib.Core.List.{List, [], _∷_, _++_, map}
@@ -15,6 +17,16 @@ module _ {A : Type 0} where
   abbrev pub concat : List (List A) → List A
   concat [] = []
   concat (xs ∷ xss) = xs ++ concat xss
+
+  -- x stands in a list
+  abbrev pub In : A → List A → Type 0
+  In x [] = ⊥
+  In x (y ∷ ys) = (x ≡ y) ⊎ In x ys
+
+  -- nothing stands twice in a list, whatever its elements are
+  abbrev pub Distinct : List A → Type 0
+  Distinct [] = Unit {0}
+  Distinct (x ∷ xs) = (In x xs → ⊥) × Distinct xs
 
   -- each element paired with each later one, in order of position
   abbrev pub pairs : List A → List (A × A)

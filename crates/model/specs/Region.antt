@@ -1,16 +1,12 @@
 -- 01, "One round", the region pass: which stretches of which routes are drained.
-use Prim.Native.Nat.{ℕ, _+_, _-_, _/_, min}
-use mathlib.Core.Bool.{cond}
-use mathlib.Core.List.{List, [], _∷_, map}
-use lib.ListN.{length}
-use Rattle.model.specs.Lists.{part, position, member, concat}
-use Rattle.model.specs.Plan.{Plan, routeOf, vehicleOf, isPlaced}
-
--- the stops of route `vehicle` from `from` up to `to`, without `to`
-pub record Region : Type 0 where
-  pub vehicle : ℕ
-  pub from : ℕ
-  pub to : ℕ
+use Prim.Native.Nat.{ℕ, zero, suc, _+_, _-_, _*_, _/_, _≤_, _<_, min}
+use mathlib.Core.Bool.{Bool, true, false, cond}
+use mathlib.Core.List.{List, [], _∷_, _++_, map}
+use lib.Dec.{eqb}
+use lib.ListN.{length, take, drop, getD}
+use Rattle.model.specs.Lists.{In, Distinct, part, position, member, change, concat}
+pub use Rattle.model.specs.declared.Region.{Region}
+use Rattle.model.specs.Plan.{Plan, Route, routeOf, vehicleOf, isPlaced}
 
 -- the picks that are placed, and of those on one vehicle the first. `named` are the vehicles of earlier picks.
 abbrev pub keepPicks : Plan → List ℕ → List ℕ → List ℕ
@@ -51,3 +47,24 @@ drainedFrom P g = part (g .from) (g .to) (routeOf P (g .vehicle))
 -- the stops of all regions
 abbrev pub drained : Plan → List Region → List ℕ
 drained P gs = concat (map (drainedFrom P) gs)
+
+-- the vehicles of regions
+abbrev pub vehiclesOf : List Region → List ℕ
+vehiclesOf gs = map (λ (g : Region). g .vehicle) gs
+
+-- a stretch of a route that the plan has
+pub record Stretch (P : Plan) (g : Region) : Type 0 where
+  pub known : g .vehicle < length P
+  pub ordered : g .from ≤ g .to
+  pub within : g .to ≤ length (routeOf P (g .vehicle))
+
+-- stretches of routes of the plan, no two of one route
+pub record Stretches (P : Plan) (gs : List Region) : Type 0 where
+  pub apart : Distinct (vehiclesOf gs)
+  pub each : (g : Region) → In g gs → Stretch P g
+
+-- ---- the form in which regions are lent: three numbers each, one region after another
+
+-- the region that stands at place i
+abbrev pub regionAt : List ℕ → ℕ → Region
+regionAt xs i = record { vehicle = getD xs (3 * i) 0; from = getD xs (3 * i + 1) 0; to = getD xs (3 * i + 2) 0 }

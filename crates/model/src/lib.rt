@@ -7,6 +7,13 @@ pub struct Prices {
     pub missed: u64,
 }
 
+// A stretch of a route that a rebuild drains: the stops of route `vehicle` from `from` up to `to`, without `to`.
+pub struct Region {
+    pub vehicle: usize,
+    pub from: usize,
+    pub to: usize,
+}
+
 // The two moving averages of a run: of the gain per round, and of the gain per improving round.
 pub struct Averages {
     pub delta: f64,

@@ -1,4 +1,4 @@
--- The lent form of a plan with a stop put at the end of a route. Assumes nothing.
+-- The lent form of a plan with a stop put at the end of a route.
 use Prim.Native.Nat.{ℕ, zero, suc, _+_, _-_, _<_, _≤_}
 use native.Mathlib.Omega.{arith}
 use native.Mathlib.Nat.{le-of-suc-le-suc, zero-add}

@@ -1,13 +1,12 @@
--- What `forEach` makes of lists that are made of parts, and the choice among the plans that it makes. Assumes nothing.
+-- What `forEach` makes of lists that are made of parts, and the choice among the plans that it makes.
 use mathlib.Core.Path.{_≡_, refl}
 use mathlib.Core.Logic.{inl, inr}
 use mathlib.Core.Bool.{Bool, true, false, cond}
 use mathlib.Core.List.{List, [], _∷_, _++_, append-assoc, append-nil}
-use Rattle.model.specs.Lists.{forEach}
+use Rattle.model.specs.Lists.{In, forEach}
 use Rattle.model.specs.Job.{Job}
 use Rattle.model.specs.Plan.{Plan}
 use Rattle.model.specs.Rebuild.{choose}
-use Rattle.model.proofs.Members.{In}
 use Rattle.model.proofs.Choice.{choose-append}
 
 module _ {A B : Type 0} where

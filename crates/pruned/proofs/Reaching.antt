@@ -1,4 +1,4 @@
--- The pruned solver's search: a step of it, and its two loops, over the stops that are left and over the vehicles. Assumes nothing.
+-- The pruned solver's search: a step of it, and its two loops, over the stops that are left and over the vehicles.
 use Prim.Native.Nat.{ℕ, suc, _+_, _-_, _≤_, _<_}
 use native.Mathlib.Omega.{arith}
 use native.Mathlib.Decide.{decLt}
@@ -11,7 +11,7 @@ use mathlib.Core.List.{List, [], _∷_, _++_}
 use lib.Dec.{ltb}
 use lib.Ieee.{Float, binary64, add}
 use lib.ListN.{length, length-append}
-use Rattle.model.specs.Lists.{concat, count, without, upFrom, forEach, Once}
+use Rattle.model.specs.Lists.{In, concat, count, without, upFrom, forEach, Once}
 use Rattle.model.specs.Whole.{whole, amount, IsWhole}
 use Rattle.model.specs.Job.{Job, vehicleCount}
 use Rattle.model.specs.Plan.{Plan, routeOf, placed, encode, decode, Lent, Sizes}
@@ -22,13 +22,13 @@ use Rattle.model.specs.Rebuild.{better, choose, appended, reached}
 use Rattle.model.specs.declared.Prices.{Prices}
 use Rattle.model.proofs.Lists.{one-same, count-append, count-member, count-without, length-without, length-upFrom, length-change, once-upFrom, count-upFrom-out}
 use Rattle.model.proofs.Counts.{Below, count-change, length-kept}
-use Rattle.model.proofs.Members.{In, in-count}
+use Rattle.model.proofs.Members.{in-count}
 use Rattle.model.proofs.PlanForm.{decode-encode, lent-encode, lent-length}
 use Rattle.stop_set.proofs.Laws.{stops-excluding, stops-none}
 use Rattle.stop_set.specs.Answers.{First}
 use Rattle.delivery.specs.Costs.{Ready, Drives, Costs}
 use Rattle.delivery.proofs.Laws.{costs-is, costs-amount, drives-amount}
-use Rattle.pruned.specs.Search.{withLast, preferred, Kept, reachedBelow, Search, Searched}
+use Rattle.pruned.specs.Search.{withLast, preferred, Winner, reachedBelow, Search, Searched}
 use Rattle.pruned.proofs.Each.{each-same, each-if, each-each, choose-each}
 use Rattle.pruned.proofs.Preferring.{preferred-better}
 
@@ -118,7 +118,7 @@ module _ {t : List ℕ} {v n : ℕ} {p : Prices} {left : ℕ} {xs : List ℕ} {b
       (q ∙ ap (λ (j : ℕ). whole (missedCost p j)) (let h : k ≡ n - placed (decode v xs) = omega (arith, all-stops S) in h))
 
   -- the plan is considered
-  module _ (a : Float) (C : Costs t v n p (decode v xs) a) (zs : List ℕ) (r : Float) (K : Kept v n xs a ys c zs r) where
+  module _ (a : Float) (C : Costs t v n p (decode v xs) a) (zs : List ℕ) (r : Float) (K : Winner v n xs a ys c zs r) where
     pub considered : Standing t v n p zs r
     considered = go (preferred n (amount a) (decode v xs) (amount c) (decode v ys)) (K .plan) (K .cost)
       where

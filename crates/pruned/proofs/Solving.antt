@@ -1,4 +1,4 @@
--- From the empty plan to the solver's answer. Assumes nothing.
+-- From the empty plan to the solver's answer.
 use Prim.Native.Nat.{ℕ}
 use native.Mathlib.Omega.{arith}
 use mathlib.Core.Path.{_≡_, ap, _∙_}
@@ -13,7 +13,7 @@ use Rattle.model.specs.Whole.{exact, whole, amount}
 use Rattle.model.specs.Job.{Job}
 use Rattle.model.specs.Plan.{Plan, encode, decode, Lent, Sizes}
 use Rattle.model.specs.StopSet.{stopsOf}
-use Rattle.model.specs.Legs.{Fits}
+use Rattle.model.specs.Legs.{Fits, Solvable}
 use Rattle.model.specs.Cost.{cost, drivingCost}
 use Rattle.model.specs.Rebuild.{pruned}
 use Rattle.model.specs.declared.Prices.{Prices}
@@ -24,9 +24,9 @@ use Rattle.model.proofs.PlanForm.{decode-encode, lent-encode}
 use Rattle.whole.proofs.Laws.{amount-is}
 use Rattle.delivery.specs.Costs.{Ready, Costs}
 use Rattle.delivery.proofs.Laws.{cost-exact}
-use Rattle.pruned.specs.Search.{Search, Searched, Given}
+use Rattle.pruned.specs.Search.{Search, Searched}
 
-module _ {t : List ℕ} {v n : ℕ} {p : Prices} {zs : List ℕ} (G : Given t v n p zs) (xs : List ℕ) (e : xs ≡ encode n (replicate v [])) where
+module _ {t : List ℕ} {v n : ℕ} {p : Prices} {zs : List ℕ} (G : Solvable t v n p zs) (xs : List ℕ) (e : xs ≡ encode n (replicate v [])) where
   abbrev none : Plan
   none = replicate v []
 

@@ -32,7 +32,7 @@ pub record Rivals (v n : ℕ) (xs : List ℕ) (a : Float) (ys : List ℕ) (b : F
   pub least : IsWhole b
 
 -- the preferred one of the two, and its cost
-pub record Kept (v n : ℕ) (xs : List ℕ) (a : Float) (ys : List ℕ) (b : Float) (zs : List ℕ) (r : Float) : Type 0 where
+pub record Winner (v n : ℕ) (xs : List ℕ) (a : Float) (ys : List ℕ) (b : Float) (zs : List ℕ) (r : Float) : Type 0 where
   pub plan : zs ≡ cond (preferred n (amount a) (decode v xs) (amount b) (decode v ys)) xs ys
   pub cost : r ≡ cond (preferred n (amount a) (decode v xs) (amount b) (decode v ys)) a b
 
@@ -58,11 +58,3 @@ pub record Searched (t : List ℕ) (v n : ℕ) (p : Prices) (left : ℕ) (xs : L
   pub lent : Lent v n zs
   pub cost : Costs t v n p (decode v zs) r
   pub chosen : (J : Job) → Fits J t v n p → decode v zs ≡ choose J (decode v ys) (reachedBelow J (amount b) (decode v xs) (stopsOf left))
-
--- what the solver is given: a leg table, up to three vehicles and six stops, prices, and a plan to write
-pub record Given (t : List ℕ) (v n : ℕ) (p : Prices) (xs : List ℕ) : Type 0 where
-  pub legs : LegTable t
-  pub vehicles : v ≤ 3
-  pub stops : n ≤ 6
-  pub prices : Affordable p
-  pub long : length xs ≡ v + n

@@ -5,14 +5,14 @@ ghost use lib.ListN.{length};
 ghost use Rattle.model.specs.Whole.{amount, whole};
 ghost use Rattle.model.specs.Job.{Job};
 ghost use Rattle.model.specs.Plan.{encode, decode, placed, Lent, Sizes};
-ghost use Rattle.model.specs.Legs.{Fits};
+ghost use Rattle.model.specs.Legs.{Fits, Solvable};
 ghost use Rattle.model.specs.Cost.{cost};
 ghost use Rattle.model.specs.Rebuild.{pruned};
-ghost use Rattle.pruned.specs.Search.{withLast, preferred, Rivals, Kept, Search, Searched, Given};
+ghost use Rattle.pruned.specs.Search.{withLast, preferred, Rivals, Winner, Search, Searched};
 use model::Prices;
 
-// Whether the choice prefers a plan to the best so far: it costs less, or the same and places more stops, or as many
-// and has the lower lent form.
+// Whether the choice prefers a plan to the best so far: it costs less, or the same and places more stops (the ones of the set of the placed
+// stops are counted), or as many and has the lower lent form.
 fn prefers(plan: &[u32], cost: f64, best: &[u32], least: f64, v: usize, n: usize) -> bool
     requires { ⌜ Rivals v n (now plan) cost (now best) least ⌝ }
     ensures { λ r. ⌜ r ≡ preferred n (amount cost) (decode v (now (plan .entry))) (amount least) (decode v (now (best .entry))) ⌝ }
@@ -23,8 +23,8 @@ fn prefers(plan: &[u32], cost: f64, best: &[u32], least: f64, v: usize, n: usize
     if !whole::same(cost, least) {
         return false;
     }
-    let placed = solution::sum_lengths(plan, v);
-    let most = solution::sum_lengths(best, v);
+    let placed = stop_set::size(solution::placed_set(plan, v, n));
+    let most = stop_set::size(solution::placed_set(best, v, n));
     if placed != most {
         return most < placed;
     }
@@ -34,7 +34,7 @@ fn prefers(plan: &[u32], cost: f64, best: &[u32], least: f64, v: usize, n: usize
 // Keeps the preferred one of a plan and the best so far, and returns its cost.
 fn consider(plan: &[u32], cost: f64, best: &mut [u32], least: f64, v: usize, n: usize) -> f64
     requires { ⌜ Rivals v n (now plan) cost (now best) least ⌝ }
-    ensures { λ r. ⌜ Kept v n (now (plan .entry)) cost (now (best .entry)) least (now (best .exit)) r ⌝ }
+    ensures { λ r. ⌜ Winner v n (now (plan .entry)) cost (now (best .entry)) least (now (best .exit)) r ⌝ }
 {
     if prefers(plan, cost, best, least, v, n) {
         pasting::copy_plan(plan, best);
@@ -97,7 +97,7 @@ fn reach(
 
 // Writes the plan that the pruned solver chooses, and returns its cost.
 pub fn pruned(legs: &[u32], v: usize, n: usize, prices: Prices, plan: &mut [u32]) -> f64
-    requires { ⌜ Given (now legs) v n prices (now plan) ⌝ }
+    requires { ⌜ Solvable (now legs) v n prices (now plan) ⌝ }
     ensures { λ r. ⌜ ((J : Job) → Fits J (now (legs .entry)) v n prices → (now (plan .exit) ≡ encode n (pruned J)) × (r ≡ whole (cost J (pruned J)))) ⌝ }
 {
     joining::empty(plan, v, n);

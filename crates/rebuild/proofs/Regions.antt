@@ -1,4 +1,4 @@
--- The regions round the picks: as the arrangement reads them, and how many stops they drain. Assumes nothing.
+-- The regions round the picks: as the arrangement reads them, and how many stops they drain.
 use Prim.Native.Nat.{ℕ, zero, suc, _+_, _-_, _*_, _/_, _≤_, _<_}
 use native.Mathlib.Omega.{arith}
 use native.Mathlib.Nat.{div-add-mod'}
@@ -10,9 +10,10 @@ use lib.ListN.{length, getD, take, drop, length-append, length-map, length-take}
 use lib.Seq.{length-take-le}
 use Rattle.model.specs.Lists.{upFrom, member}
 use Rattle.model.specs.Plan.{Plan, routeOf, vehicleOf, isPlaced, decode, Lent, Sizes}
-use Rattle.model.specs.Region.{Region, keepPicks, regionOf, regions, drainedFrom, drained}
+use Rattle.model.specs.declared.Region.{Region}
+use Rattle.model.specs.Region.{keepPicks, regionOf, regions, drainedFrom, drained, regionAt}
 use Rattle.model.proofs.Regions.{regions-stretches}
-use Rattle.rebuild_regions.specs.Reading.{regionAt, readRegions}
+use Rattle.rebuild_regions.specs.Reading.{readRegions}
 use Rattle.rebuild_regions.proofs.Reading.{length-read}
 use Rattle.rebuild_words.specs.Gaps.{regionsOf, Gapped}
 

@@ -1,7 +1,7 @@
 -- From the empty word: the first gap's beginning, and the best of all arrangements.
 use mathlib.Core.Path.{_≡_, refl, sym, ap, _∙_}
 use mathlib.Core.List.{List, [], _∷_}
-use Prim.Native.Nat.{ℕ, _+_, _-_, _≤_, _<_}
+use Prim.Native.Nat.{ℕ, _≤_, _<_}
 use native.Mathlib.Omega.{arith}
 use lib.Ieee.{Float}
 use lib.ListN.{length, take}
@@ -11,7 +11,8 @@ use Rattle.model.specs.Lists.{count}
 use Rattle.model.specs.StopSet.{stopsOf}
 use Rattle.model.specs.Job.{Job}
 use Rattle.model.specs.Plan.{Plan, placed, encode, decode}
-use Rattle.model.specs.Region.{Region, drained}
+use Rattle.model.specs.declared.Region.{Region}
+use Rattle.model.specs.Region.{drained}
 use Rattle.model.specs.Legs.{Fits}
 use Rattle.model.specs.Cost.{cost}
 use Rattle.model.specs.Rebuild.{fillings, arrangements, choose}
@@ -33,7 +34,7 @@ use Rattle.rebuild_survey.specs.Surveys.{headOf, beforeOf, Surveyed}
 use Rattle.rebuild_survey.specs.Sets.{Gathers}
 use Rattle.rebuild_gaps.proofs.Here.{plan-wide, plan-few, plan-lent, start-closable, here-start}
 use Rattle.rebuild_choice.specs.declared.Score.{Score}
-use Rattle.rebuild_choice.specs.Scores.{Kept, Walked}
+use Rattle.rebuild_choice.specs.Scores.{Scored, Walked}
 use Rattle.rebuild_last_stops.specs.Walks.{Walkable}
 use Rattle.rebuild_arrange.specs.Arranged.{Arrangeable, Begun, Arranged}
 
@@ -98,7 +99,7 @@ module _ (t : List ℕ) (v n : ℕ) (p : Prices) (xs regions : List ℕ) (A : Ar
 
   -- the plan itself is the best so far
   pub start-kept : (best : List ℕ) → best ≡ xs → (c : Float) → Costs t v n p P c → (all : ℕ) → all ≡ placed P → (s : Score) → s .cost ≡ c → s .placed ≡ all
-      → Kept t v n p best s
+      → Scored t v n p best s
   start-kept best eb c C all ea s ec ep = record {
     lent = rw eb (A .gapped .plan);
     cost = rw (eb, ec) C;
@@ -129,7 +130,7 @@ module _ (t : List ℕ) (v n : ℕ) (p : Prices) (xs regions : List ℕ) (A : Ar
         )
 
     pub start-walkable : (gaps : List ℕ) (st : Stand) → Begun t v n p xs regions gaps st → (all : ℕ) → all ≡ placed P
-        → (codes : List ℕ) → length codes ≡ 7 → (best : List ℕ) (s : Score) → Kept t v n p best s → s .count ≡ 0
+        → (codes : List ℕ) → length codes ≡ 7 → (best : List ℕ) (s : Score) → Scored t v n p best s → s .count ≡ 0
         → Walkable t v n p xs regions gaps all left 0 st codes 0 best s (plansFrom P gs (take 0 codes) (stopsOf left) 0)
     unfolding L
     start-walkable gaps st B all ea codes lc best s K e0 = record {
@@ -167,7 +168,7 @@ module _ (t : List ℕ) (v n : ℕ) (p : Prices) (xs regions : List ℕ) (A : Ar
 
   -- ---- no region
 
-  pub none-arranged : length regions ≡ 0 → (after : List ℕ) (r : Score) → after ≡ xs → Kept t v n p after r → r .count ≡ 1 → Arranged t v n p xs regions after r
+  pub none-arranged : length regions ≡ 0 → (after : List ℕ) (r : Score) → after ≡ xs → Scored t v n p after r → r .count ≡ 1 → Arranged t v n p xs regions after r
   unfolding arrangements
   none-arranged e after r ea K ec =
       let g : gs ≡ [] = no-regions regions e in

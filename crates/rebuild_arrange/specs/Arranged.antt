@@ -15,7 +15,7 @@ use Rattle.rebuild_words.specs.Gaps.{regionsOf, Gapped}
 use Rattle.rebuild_gaps.specs.declared.Stand.{Stand}
 use Rattle.rebuild_gaps.specs.Here.{Ground, Here}
 use Rattle.rebuild_choice.specs.declared.Score.{Score}
-use Rattle.rebuild_choice.specs.Scores.{Kept}
+use Rattle.rebuild_choice.specs.Scores.{Scored}
 
 -- a plan with up to three regions, which drain at most seven stops
 pub record Arrangeable (t : List ℕ) (v n : ℕ) (p : Prices) (xs regions : List ℕ) : Type 0 where
@@ -31,7 +31,7 @@ pub record Begun (t : List ℕ) (v n : ℕ) (p : Prices) (xs regions gaps : List
 
 -- The arrangement that the choice prefers, for every job that fits, with its score, and how many arrangements there are.
 pub record Arranged (t : List ℕ) (v n : ℕ) (p : Prices) (xs regions after : List ℕ) (r : Score) : Type 0 where
-  pub kept : Kept t v n p after r
+  pub kept : Scored t v n p after r
   pub best : (J : Job) → Fits J t v n p → after ≡ encode n (choose J (decode v xs) (arrangements (decode v xs) (regionsOf regions)))
   pub cost : (J : Job) → Fits J t v n p → r .cost ≡ whole (cost J (choose J (decode v xs) (arrangements (decode v xs) (regionsOf regions))))
   pub count : r .count ≡ length (fillings (length (regionsOf regions)) (drained (decode v xs) (regionsOf regions)))

@@ -1,6 +1,6 @@
 // All arrangements of some stops in up to three gaps of a plan, and the best of them.
 ghost use mathlib.Core.Path.{_≡_};
-ghost use Prim.Native.Nat.{_+_, _≤_, _<_};
+ghost use Prim.Native.Nat.{_+_, _<_};
 ghost use lib.ListN.{length, take};
 ghost use Rattle.model.specs.StopSet.{stopsOf};
 ghost use Rattle.model.specs.Plan.{decode};
@@ -14,7 +14,8 @@ use rebuild_choice::Score;
 use rebuild_gaps::Stand;
 
 // Places each of the stops that are left at the end of gap q in turn, and calls the walk on those that are left then. Where at most two
-// are left then, that walk does not come back to this function: nearly all arrangements leave no more than two stops.
+// are left then, that walk does not come back to this function: nearly all arrangements leave no more than two stops. The placements stay
+// as they were.
 fn spread(
     legs: &[u32],
     v: usize,
@@ -37,7 +38,7 @@ fn spread(
     ensures { λ r. ⌜ Walked (now (legs .entry)) v n prices
         (plansAt (decode v (now (plan .entry))) (regionsOf (now (regions .entry))) (take m (now (codes .entry))) (stopsOf left) q (stopsOf left))
         (now (best .entry)) score (now (best .exit)) r ⌝ }
-    ensures { λ _. ⌜ take m (now (codes .exit)) ≡ take m (now (codes .entry)) ⌝ }
+    ensures { λ _. ⌜ now (codes .exit) ≡ now (codes .entry) ⌝ }
 {
     let few = stop_set::size(left);
     let mut found = score;
@@ -45,6 +46,7 @@ fn spread(
     while rest != 0 {
         let s = stop_set::lowest(rest);
         rest = stop_set::without(rest, s);
+        let was = codes[m];
         codes[m] = q as u32 * 64 + s;
         let next = rebuild_gaps::step(legs, stand, s);
         let fewer = stop_set::without(left, s);
@@ -67,6 +69,7 @@ fn spread(
                 best,
                 found,
             );
+            codes[m] = was;
         } else {
             found = walk(
                 legs,
@@ -85,6 +88,7 @@ fn spread(
                 best,
                 found,
             );
+            codes[m] = was;
         }
     }
     found
@@ -113,7 +117,7 @@ fn walk(
     ensures { λ r. ⌜ Walked (now (legs .entry)) v n prices
         (plansFrom (decode v (now (plan .entry))) (regionsOf (now (regions .entry))) (take m (now (codes .entry))) (stopsOf left) q)
         (now (best .entry)) score (now (best .exit)) r ⌝ }
-    ensures { λ _. ⌜ take m (now (codes .exit)) ≡ take m (now (codes .entry)) ⌝ }
+    ensures { λ _. ⌜ now (codes .exit) ≡ now (codes .entry) ⌝ }
 {
     let unplaced = stop_set::size(left);
     let met = rebuild_choice::meet(
@@ -263,4 +267,23 @@ pub fn arrange(
         &mut scratch[..m],
         best,
     )
+}
+
+// Writes the best arrangement of the stops of some regions over the plan that has them.
+pub fn rearrange(
+    legs: &[u32],
+    v: usize,
+    n: usize,
+    prices: Prices,
+    plan: &mut [u32],
+    regions: &[u32],
+) -> Score
+    requires { ⌜ Arrangeable (now legs) v n prices (now plan) (now regions) ⌝ }
+    ensures { λ r. ⌜ Arranged (now (legs .entry)) v n prices (now (plan .entry)) (now (regions .entry)) (now (plan .exit)) r ⌝ }
+{
+    let m = v + n;
+    let mut best = [0u32; 80];
+    let score = arrange(legs, v, n, prices, plan, regions, &mut best[..m]);
+    pasting::copy_plan(&best[..m], plan);
+    score
 }

@@ -2,7 +2,7 @@
 use mathlib.Core.Path.{_≡_, refl, sym, ap, _∙_}
 use mathlib.Core.Logic.{⊎-elim}
 use mathlib.Core.List.{List, [], _∷_, _++_, append-assoc, append-nil}
-use Prim.Native.Nat.{ℕ, _+_, _-_}
+use Prim.Native.Nat.{ℕ, _+_}
 use native.Mathlib.Omega.{arith}
 use lib.Ieee.{Float}
 use lib.ListN.{length, length-append}
@@ -18,7 +18,7 @@ use Rattle.model.proofs.PlanForm.{decode-encode, lent-length, lent-encode}
 use Rattle.delivery.specs.Costs.{Costs}
 use Rattle.delivery.proofs.Laws.{cost-exact}
 use Rattle.rebuild_choice.specs.declared.Score.{Score}
-use Rattle.rebuild_choice.specs.Scores.{Considered, Kept, Walked}
+use Rattle.rebuild_choice.specs.Scores.{Considered, Scored, Walked}
 
 module _ (t : List ℕ) (v n : ℕ) (p : Prices) where
   -- ---- one plan
@@ -26,11 +26,11 @@ module _ (t : List ℕ) (v n : ℕ) (p : Prices) where
   module _ (L : LegTable t) (Z : Sizes v n) (A : Affordable p) where
     -- X, which costs c and places k stops, is a plan of v routes and n stops
     module _ (X : Plan) (wide : length X ≡ v) (once : Once (concat X)) (below : Below n (concat X)) (c : Float) (C : Costs t v n p X c) (k : ℕ) (ek : k ≡ placed X)
-        (best : List ℕ) (s : Score) (K : Kept t v n p best s) (after : List ℕ) (r : Score) (D : Considered v n X c k best s after r) where
-      pub considered-kept : Kept t v n p after r
+        (best : List ℕ) (s : Score) (K : Scored t v n p best s) (after : List ℕ) (r : Score) (D : Considered v n X c k best s after r) where
+      pub considered-kept : Scored t v n p after r
       considered-kept = ⊎-elim new old (D .either)
         where
-          new : (after ≡ encode n X) × (r .cost ≡ c) × (r .placed ≡ k) → Kept t v n p after r
+          new : (after ≡ encode n X) × (r .cost ≡ c) × (r .placed ≡ k) → Scored t v n p after r
           new e =
               let d : decode v after ≡ X = ap (decode v) (e .0) ∙ decode-encode n X v wide in
               record {
@@ -39,7 +39,7 @@ module _ (t : List ℕ) (v n : ℕ) (p : Prices) where
                 placed = rw d (e .2 ∙ ek);
               }
 
-          old : (after ≡ best) × (r .cost ≡ s .cost) × (r .placed ≡ s .placed) → Kept t v n p after r
+          old : (after ≡ best) × (r .cost ≡ s .cost) × (r .placed ≡ s .placed) → Scored t v n p after r
           old e = record { lent = rw (e .0) (K .lent); cost = rw (e .0, e .1) (K .cost); placed = rw (e .0) (e .2 ∙ K .placed) }
 
       pub walked-one : Walked t v n p (X ∷ []) best s after r
@@ -54,7 +54,7 @@ module _ (t : List ℕ) (v n : ℕ) (p : Prices) where
 
   -- ---- several
 
-  pub walked-none : (best : List ℕ) (s : Score) → Kept t v n p best s → Walked t v n p [] best s best s
+  pub walked-none : (best : List ℕ) (s : Score) → Scored t v n p best s → Walked t v n p [] best s best s
   walked-none best s K = record { kept = K; chosen = λ J F. refl; counted = omega arith }
 
   pub walked-append : (Ps Qs : List Plan) (b₀ b₁ b₂ : List ℕ) (s₀ s₁ s₂ : Score) → Walked t v n p Ps b₀ s₀ b₁ s₁ → Walked t v n p Qs b₁ s₁ b₂ s₂
@@ -72,7 +72,7 @@ module _ (t : List ℕ) (v n : ℕ) (p : Prices) where
     pub walked : Walked t v n p done b₀ s₀ b s
 
   module _ (all : List Plan) (b₀ : List ℕ) (s₀ : Score) where
-    pub underway-start : Kept t v n p b₀ s₀ → Underway all all b₀ s₀ b₀ s₀
+    pub underway-start : Scored t v n p b₀ s₀ → Underway all all b₀ s₀ b₀ s₀
     underway-start K = record { done = []; split = refl; walked = walked-none b₀ s₀ K }
 
     module _ (todo : List Plan) (b : List ℕ) (s : Score) (u : Underway all todo b₀ s₀ b s) where

@@ -12,7 +12,7 @@ use Rattle.rebuild_gaps.specs.declared.Stand.{Stand}
 use Rattle.rebuild_gaps.specs.Here.{Ground, Here}
 use Rattle.rebuild_choice.specs.declared.Score.{Score}
 use Rattle.rebuild_choice.specs.declared.Met.{Met}
-use Rattle.rebuild_choice.specs.Scores.{Kept, Walked}
+use Rattle.rebuild_choice.specs.Scores.{Scored, Walked}
 
 -- The walk stands at a word in gap q, with k stops left, and the word's own plan is to be weighed and compared with the best so far.
 pub record Meetable (t : List ℕ) (v n : ℕ) (p : Prices) (xs regions gaps : List ℕ) (all k q : ℕ) (st : Stand) (w : Word) (best : List ℕ) (s : Score)
@@ -22,7 +22,7 @@ pub record Meetable (t : List ℕ) (v n : ℕ) (p : Prices) (xs regions gaps : L
   pub left : List ℕ
   pub many : k ≡ length left
   pub here : Here t v p xs regions w left q st
-  pub kept : Kept t v n p best s
+  pub kept : Scored t v n p best s
   pub few : s .count + 1 < 2 ^ 64
 
 -- That is done for the plan X.

@@ -51,13 +51,13 @@ pub record Considered (v n : ℕ) (X : Plan) (c : Float) (k : ℕ) (best : List 
   pub counted : r .count ≡ s .count + 1
 
 -- the best so far is a plan of v routes and n stops, and has this score
-pub record Kept (t : List ℕ) (v n : ℕ) (p : Prices) (best : List ℕ) (s : Score) : Type 0 where
+pub record Scored (t : List ℕ) (v n : ℕ) (p : Prices) (best : List ℕ) (s : Score) : Type 0 where
   pub lent : Lent v n best
   pub cost : Costs t v n p (decode v best) (s .cost)
   pub placed : s .placed ≡ placed (decode v best)
 
 -- the plans of a list were compared with the best so far one after another, and counted
 pub record Walked (t : List ℕ) (v n : ℕ) (p : Prices) (Ps : List Plan) (best : List ℕ) (s : Score) (after : List ℕ) (r : Score) : Type 0 where
-  pub kept : Kept t v n p after r
+  pub kept : Scored t v n p after r
   pub chosen : (J : Job) → Fits J t v n p → decode v after ≡ choose J (decode v best) Ps
   pub counted : r .count ≡ s .count + length Ps

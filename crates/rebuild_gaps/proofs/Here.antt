@@ -9,7 +9,8 @@ use Rattle.model.specs.declared.Prices.{Prices}
 use Rattle.model.specs.Whole.{whole}
 use Rattle.model.specs.Lists.{concat, change, without, count, Once}
 use Rattle.model.specs.Plan.{Plan, Route, routeOf, placed, decode, Lent, encode}
-use Rattle.model.specs.Region.{Region}
+use Rattle.model.specs.declared.Region.{Region}
+use Rattle.model.specs.Region.{regionAt}
 use Rattle.model.specs.Legs.{legAt, depot}
 use Rattle.model.specs.Cost.{price}
 use Rattle.model.proofs.Lists.{count-append, getD-change}
@@ -18,10 +19,10 @@ use Rattle.model.proofs.PlanForm.{lent-length, lent-encode}
 use Rattle.model.proofs.Arrangements.{spliced}
 use Rattle.distance.specs.Ways.{tableLegs, walked, lastPlace, Below}
 use Rattle.distance.proofs.Laws.{way-append, way-small, walked-append, last-append}
-use Rattle.delivery.specs.Costs.{tableDriving, Drives}
-use Rattle.delivery.proofs.Laws.{driving-small, table-driving, dearest}
+use Rattle.delivery.specs.Costs.{tableDriving}
+use Rattle.delivery.proofs.Laws.{driving-small, dearest}
 use Rattle.rebuild_words.specs.Words.{Word, code, inGap, Placing}
-use Rattle.rebuild_words.specs.Gaps.{regionsOf, regionAt}
+use Rattle.rebuild_words.specs.Gaps.{regionsOf}
 use Rattle.rebuild_words.proofs.Plans.{placed-same, placed-other, planOf-placed, length-planOf, placing-more, placed-planOf, once-planOf, below-planOf}
 use Rattle.rebuild_words.proofs.Gaps.{region-at, stretch-at, route-of-region}
 use Rattle.rebuild_survey.specs.Surveys.{beforeOf, headOf}
@@ -30,6 +31,7 @@ use Rattle.rebuild_gaps.specs.Stands.{closed, vacant, Closable, Closes, 
 use Rattle.rebuild_gaps.specs.Here.{Ground, planAt, wayOf, upTo, Here}
 use Rattle.rebuild_survey.proofs.Ways.{last-near, way-on}
 use Rattle.rebuild_gaps.proofs.Driving.{table-change, route-le}
+use Rattle.rebuild_gaps.proofs.Stands.{closes-whole, opens-whole}
 
 module _ (t : List ℕ) (v n : ℕ) (p : Prices) (xs regions gaps : List ℕ) (G : Ground t v n p xs regions gaps) where
   abbrev P : Plan
@@ -72,13 +74,6 @@ module _ (t : List ℕ) (v n : ℕ) (p : Prices) (xs regions gaps : List ℕ) (G
     pub plan-small : tableDriving t p 0 X ≤ dearest
     plan-small =
         driving-small t p (G .legs) (G .prices) 0 X (omega (arith, plan-wide, plan-few, G .gapped .sizes .vehicles, G .gapped .sizes .stops))
-
-    pub plan-drives : (c : Float) → c ≡ whole (tableDriving t p 0 X) → Drives t v n p X c
-    plan-drives c e = record {
-      small = omega (arith, plan-small);
-      table = e;
-      job = λ J F. e ∙ ap whole (table-driving J t v n p F X (omega (arith, plan-wide)) plan-below below-64);
-    }
 
     -- ---- the route of a gap
 
@@ -146,7 +141,7 @@ module _ (t : List ℕ) (v n : ℕ) (p : Prices) (xs regions gaps : List ℕ) (G
     here-driving c C =
         let e = own-closed w left (at .placing) q (at .gap) (st .length) (st .last) (at .gone) (at .place) in
         let a : at .rest + price p (closed t gaps q (st .length) (st .last)) ≡ tableDriving t p 0 (planAt v xs regions w) = rw e (at .all) in
-        C (at .rest) (at .others) (omega (arith, a, plan-small w left (at .placing))) ∙ ap whole a
+        closes-whole t gaps q p st c C (at .rest) (at .others) (omega (arith, a, plan-small w left (at .placing))) ∙ ap whole a
 
     -- ---- one stop further
 
@@ -228,7 +223,7 @@ module _ (t : List ℕ) (v n : ℕ) (p : Prices) (xs regions gaps : List ℕ) (G
           placing = pl;
           later = λ r k. none r (omega arith);
           rest = tableDriving t p 0 (planAt v xs regions w) - price p (vacant t gaps q);
-          others = O .others (tableDriving t p 0 (planAt v xs regions w)) ec (omega (arith, e, le)) (omega (arith, small));
+          others = opens-whole t gaps q p c st O (tableDriving t p 0 (planAt v xs regions w)) ec (omega (arith, e, le)) (omega (arith, small));
           all = omega (arith, e, le);
           gone = O .gone ∙ start-gone;
           place = O .place ∙ start-place;

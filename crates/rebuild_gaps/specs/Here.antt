@@ -6,12 +6,13 @@ use lib.ListN.{length, take}
 use Rattle.model.specs.declared.Prices.{Prices}
 use Rattle.model.specs.Whole.{whole}
 use Rattle.model.specs.Plan.{Plan, Route, routeOf, decode}
+use Rattle.model.specs.Region.{regionAt}
 use Rattle.model.specs.Legs.{depot, LegTable, Affordable}
 use Rattle.model.specs.Cost.{price}
 use Rattle.distance.specs.Ways.{tableLegs, walked, lastPlace}
 use Rattle.delivery.specs.Costs.{tableDriving}
 use Rattle.rebuild_words.specs.Words.{Word, inGap, planOf, Placing}
-use Rattle.rebuild_words.specs.Gaps.{regionsOf, regionAt, Gapped}
+use Rattle.rebuild_words.specs.Gaps.{regionsOf, Gapped}
 use Rattle.rebuild_survey.specs.Surveys.{Surveyed}
 use Rattle.rebuild_gaps.specs.declared.Stand.{Stand}
 

@@ -1,11 +1,11 @@
 -- Where a walk stands in a gap, and what the route costs from there.
 use mathlib.Core.Path.{_≡_}
-use Prim.Native.Nat.{ℕ, _+_, _-_, _*_, _≤_, _<_}
+use Prim.Native.Nat.{ℕ, _+_, _*_, _≤_, _<_}
 use mathlib.Core.List.{List}
 use lib.ListN.{length}
-use lib.Ieee.{Float}
+use lib.Ieee.{Float, binary64, add, sub}
 use Rattle.model.specs.declared.Prices.{Prices}
-use Rattle.model.specs.Whole.{exact, whole}
+use Rattle.model.specs.Whole.{whole}
 use Rattle.model.specs.Legs.{legAt, LegTable, Affordable}
 use Rattle.model.specs.Cost.{price}
 use Rattle.rebuild_survey.specs.Surveys.{beforeOf, afterOf, headOf, restOf}
@@ -30,13 +30,11 @@ pub record Closable (t gaps : List ℕ) (q : ℕ) (p : Prices) (gone last : ℕ)
 
 -- the other routes and that of gap q, which ends so, together
 abbrev pub Closes : List ℕ → List ℕ → ℕ → Prices → Stand → Float → Type 0
-Closes t gaps q p st c =
-    (o : ℕ) → st .others ≡ whole o → o + price p (closed t gaps q (st .length) (st .last)) ≤ exact
-    → c ≡ whole (o + price p (closed t gaps q (st .length) (st .last)))
+Closes t gaps q p st c = c ≡ add binary64 (st .others) (whole (price p (closed t gaps q (st .length) (st .last))))
 
 -- st stands at the beginning of gap q, which is empty, where all routes cost c
 pub record Opens (t gaps : List ℕ) (q : ℕ) (p : Prices) (c : Float) (st : Stand) : Type 0 where
-  pub others : (d : ℕ) → c ≡ whole d → price p (vacant t gaps q) ≤ d → d ≤ exact → st .others ≡ whole (d - price p (vacant t gaps q))
+  pub others : st .others ≡ sub binary64 c (whole (price p (vacant t gaps q)))
   pub gone : st .length ≡ headOf gaps q
   pub place : st .last ≡ beforeOf gaps q
 

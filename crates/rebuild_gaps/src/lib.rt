@@ -1,6 +1,6 @@
 // Gaps: where a walk over the arrangements of a plan's gaps stands on a gap's route, and what the routes cost from there.
 ghost use mathlib.Core.Path.{_≡_};
-ghost use Prim.Native.Nat.{ℕ, _≤_, _<_};
+ghost use Prim.Native.Nat.{_≤_, _<_};
 ghost use Rattle.model.specs.Legs.{LegTable};
 ghost use Rattle.rebuild_survey.specs.Surveys.{headOf, beforeOf};
 ghost use Rattle.rebuild_gaps.specs.Stands.{Closable, Closes, Opens, Resumes, Steps};

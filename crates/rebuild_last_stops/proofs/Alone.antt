@@ -1,13 +1,13 @@
 -- Where no stop is left, nothing goes on from a word.
 use mathlib.Core.Path.{_≡_, refl, ap, _∙_}
-use mathlib.Core.List.{List, [], _∷_, map}
+use mathlib.Core.List.{List, [], _∷_}
 use Prim.Native.Nat.{ℕ, _-_}
 use native.Mathlib.Omega.{arith}
 use lib.ListN.{length}
 use Rattle.model.specs.Lists.{forEach, upFrom}
 use Rattle.model.specs.Plan.{Plan}
-use Rattle.model.specs.Region.{Region}
-use Rattle.rebuild_words.specs.Words.{Word, planOf, words, plansFrom, plansOn}
+use Rattle.model.specs.declared.Region.{Region}
+use Rattle.rebuild_words.specs.Words.{Word, planOf, plansFrom, plansOn}
 use Rattle.rebuild_words.proofs.Walks.{plans-first}
 
 -- nothing of each is nothing

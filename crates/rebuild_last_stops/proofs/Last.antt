@@ -1,12 +1,11 @@
 -- The last stop that is left, placed at the end of a gap.
-use mathlib.Core.Path.{_≡_, refl, sym, ap}
+use mathlib.Core.Path.{_≡_, refl, ap, _∙_}
 use mathlib.Core.List.{List, [], _∷_}
 use Prim.Native.Nat.{ℕ, _+_, _<_}
-use native.Mathlib.Nat.{le-refl}
 use native.Mathlib.Omega.{arith}
 use native.Mathlib.Decide.{decLt}
-use lib.ListN.{length, take, set}
-use lib.Seq.{take-set-le}
+use lib.ListN.{length, getD, take, set}
+use lib.Seq.{set-set, set-getD}
 use Rattle.model.specs.declared.Prices.{Prices}
 use Rattle.model.specs.StopSet.{excluding, stopsOf}
 use Rattle.model.specs.Plan.{decode}
@@ -40,26 +39,27 @@ module _ {t : List ℕ} {v n : ℕ} {p : Prices} {xs regions gaps : List ℕ} {a
     abbrev more : List ℕ
     more = set codes m (code q s)
 
-    gone : length (stopsOf (excluding s left)) ≡ 0
-    gone = omega (arith, turn-fewer W (spreading-start W) F {fewer = excluding s left} refl)
-
     pub last-room : m < length codes
     last-room = turn-room W (spreading-start W) F
 
-    pub last-same : take m more ≡ take m codes
-    last-same = take-set-le m codes m (code q s) (le-refl m)
+    -- the number at m is put back
+    pub last-same : set more m (getD codes m 0) ≡ codes
+    last-same = set-set codes m (code q s) (getD codes m 0) ∙ set-getD codes m 0
 
     -- the one turn
-    module _ {next : Stand} (N : Steps t st s next) where
-      turn : Walkable t v n p xs regions gaps all (excluding s left) q next more (m + 1) best f
-          (plansFrom (decode v xs) (regionsOf regions) (take (m + 1) more) (stopsOf (excluding s left)) q)
-      turn = turn-call W (spreading-start W) F {fewer = excluding s left} refl N
+    module _ {fewer : ℕ} (ef : fewer ≡ excluding s left) {next : Stand} (N : Steps t st s next) where
+      gone : length (stopsOf fewer) ≡ 0
+      gone = omega (arith, turn-fewer W (spreading-start W) F ef)
 
-      pub last-meetable : Meetable t v n p xs regions gaps all 0 q next (take (m + 1) more) best f
-      last-meetable = walk-meetable turn {k = 0} (sym gone)
+      turn : Walkable t v n p xs regions gaps all fewer q next more (m + 1) best f
+          (plansFrom (decode v xs) (regionsOf regions) (take (m + 1) more) (stopsOf fewer) q)
+      turn = turn-call W (spreading-start W) F ef N
+
+      pub last-meetable : {k : ℕ} → k ≡ length (stopsOf fewer) → Meetable t v n p xs regions gaps all k q next (take (m + 1) more) best f
+      last-meetable = walk-meetable turn
 
       pub last-walked : {after : List ℕ} {r : Score} → length after ≡ length best → Walked t v n p (planAt v xs regions (take (m + 1) more) ∷ []) best f after r
           → Walked t v n p (plansAt (decode v xs) (regionsOf regions) (take m codes) (stopsOf left) q (stopsOf left)) best f after r
       last-walked e own =
-          let d = turn-after W (spreading-start W) F {fewer = excluding s left} refl more {rest′ = excluding s left} refl (walk-alone turn gone own) refl refl e in
-          spreading-end W d (none-left (stopsOf (excluding s left)) gone)
+          let d = turn-after W (spreading-start W) F ef more {rest′ = fewer} ef (walk-alone turn gone own) refl e in
+          spreading-end W d (none-left (stopsOf fewer) gone)

@@ -1,17 +1,16 @@
 -- A walk that places each of the stops that are left in one gap in turn.
 use mathlib.Core.Path.{_≡_, refl, sym, ap, ap₂, _∙_, subst}
 use mathlib.Core.List.{List, [], _∷_, _++_}
-use Prim.Native.Nat.{ℕ, _+_, _-_, _^_, _≤_, _<_}
-use native.Mathlib.Nat.{le-refl}
+use Prim.Native.Nat.{ℕ, _+_, _^_, _≤_, _<_}
 use native.Mathlib.Numerals.{add-one}
 use native.Mathlib.Omega.{arith}
-use lib.ListN.{length, take, set, length-set, length-append}
-use lib.Seq.{take-suc-set, take-take, take-set-le}
+use lib.ListN.{length, getD, take, set, length-set, length-append}
+use lib.Seq.{take-suc-set, set-set, set-getD}
 use Rattle.model.specs.declared.Prices.{Prices}
 use Rattle.model.specs.Lists.{count, without}
 use Rattle.model.specs.StopSet.{excluding, stopsOf}
 use Rattle.model.specs.Plan.{Plan, decode}
-use Rattle.model.specs.Region.{Region}
+use Rattle.model.specs.declared.Region.{Region}
 use Rattle.model.proofs.Lists.{one-same}
 use Rattle.stop_set.specs.Answers.{First}
 use Rattle.stop_set.proofs.Laws.{taken-list, taken-size, first-less}
@@ -33,8 +32,7 @@ pub record Spreading (t : List ℕ) (v n : ℕ) (p : Prices) (xs regions : List 
   pub under : Underway t v n p (plansAt (decode v xs) (regionsOf regions) (take m codes₀) (stopsOf left) q (stopsOf left))
       (plansAt (decode v xs) (regionsOf regions) (take m codes₀) (stopsOf left) q (stopsOf rest)) best₀ s₀ best s
   pub among : (x : ℕ) → 1 ≤ count x (stopsOf rest) → 1 ≤ count x (stopsOf left)
-  pub same : take m codes ≡ take m codes₀
-  pub long : length codes ≡ length codes₀
+  pub same : codes ≡ codes₀
   pub bests : length best ≡ length best₀
 
 module _ {t : List ℕ} {v n : ℕ} {p : Prices} {xs regions gaps : List ℕ} {all left q : ℕ} {st : Stand} {codes₀ : List ℕ} {m : ℕ} {best₀ : List ℕ}
@@ -55,7 +53,6 @@ module _ {t : List ℕ} {v n : ℕ} {p : Prices} {xs regions gaps : List ℕ} {a
     under = underway-start t v n p (plansAt P gs w (stopsOf left) q (stopsOf left)) best₀ s₀ (W .kept);
     among = λ x h. h;
     same = refl;
-    long = refl;
     bests = refl;
   }
 
@@ -73,7 +70,7 @@ module _ {t : List ℕ} {v n : ℕ} {p : Prices} {xs regions gaps : List ℕ} {a
 
       -- there is room for a placement
       pub turn-room : m < length codes
-      turn-room = omega (arith, W .room, W .short, S .long, taken-size left s (excluding s left) turn-there refl)
+      turn-room = omega (arith, W .room, W .short, ap length (S .same), taken-size left s (excluding s left) turn-there refl)
 
       pub turn-fewer : {fewer : ℕ} → fewer ≡ excluding s left → length (stopsOf fewer) < length (stopsOf left)
       turn-fewer {fewer} e = omega (arith, taken-size left s fewer turn-there e)
@@ -85,7 +82,7 @@ module _ {t : List ℕ} {v n : ℕ} {p : Prices} {xs regions gaps : List ℕ} {a
       placed =
           ap (λ (j : ℕ). take j (set codes m (code q s))) (add-one m)
           ∙ take-suc-set codes m (code q s) turn-room
-          ∙ ap (λ (x : List ℕ). x ++ code q s ∷ []) (S .same)
+          ∙ ap (λ (x : List ℕ). take m x ++ code q s ∷ []) (S .same)
 
       module _ {fewer : ℕ} (ef : fewer ≡ excluding s left) where
         others : stopsOf fewer ≡ without s (stopsOf left)
@@ -124,29 +121,22 @@ module _ {t : List ℕ} {v n : ℕ} {p : Prices} {xs regions gaps : List ℕ} {a
               subst (λ (x : Word). Here t v p xs regions x (stopsOf fewer) q next) (sym placed)
               (rw others (here-further t v n p xs regions gaps (W .ground) w (stopsOf left) q st (W .here) s (F .small) turn-there next st′));
           room = omega (arith, W .room, turn-fewer ef);
-          short = length-set codes m (code q s) ∙ S .long ∙ W .short;
+          short = length-set codes m (code q s) ∙ ap length (S .same) ∙ W .short;
           kept = S .under .walked .kept;
           few = few;
         }
 
-        -- and what it leaves
+        -- and what it leaves, once the number at m is put back
         pub turn-after : (codes′ : List ℕ) {best′ : List ℕ} {f′ : Score} {rest′ : ℕ} → rest′ ≡ excluding s rest
             → Walked t v n p (plansFrom P gs (take (m + 1) (set codes m (code q s))) (stopsOf fewer) q) best f best′ f′
-            → take (m + 1) codes′ ≡ take (m + 1) (set codes m (code q s)) → length codes′ ≡ length (set codes m (code q s))
-            → length best′ ≡ length best
-            → Spreading t v n p xs regions left q codes₀ m best₀ s₀ codes′ best′ f′ rest′
+            → codes′ ≡ set codes m (code q s) → length best′ ≡ length best
+            → Spreading t v n p xs regions left q codes₀ m best₀ s₀ (set codes′ m (getD codes m 0)) best′ f′ rest′
         unfolding this
-        turn-after codes′ {best′} {f′} {rest′} er K ec lc lb = record {
+        turn-after codes′ {best′} {f′} {rest′} er K ec lb = record {
           under =
               underway-more t v n p (plansAt P gs w (stopsOf left) q (stopsOf left)) best₀ s₀ (plansAt P gs w (stopsOf left) q (stopsOf rest)) best f (S .under)
               this (plansAt P gs w (stopsOf left) q (stopsOf rest′)) (split rest′ er) best′ f′ K;
           among = λ x h. S .among x (omega (arith, h, ap (λ (y : ℕ). count x (stopsOf y)) er, ap (count x) (F .list)));
-          same =
-              sym (take-take m (m + 1) codes′ (omega arith))
-              ∙ ap (take m) ec
-              ∙ take-take m (m + 1) (set codes m (code q s)) (omega arith)
-              ∙ take-set-le m codes m (code q s) (le-refl m)
-              ∙ S .same;
-          long = lc ∙ length-set codes m (code q s) ∙ S .long;
+          same = ap (λ (x : List ℕ). set x m (getD codes m 0)) ec ∙ set-set codes m (code q s) (getD codes m 0) ∙ set-getD codes m 0 ∙ S .same;
           bests = lb ∙ S .bests;
         }

@@ -1,7 +1,7 @@
 -- A walk from a word: the word's own plan, and what goes on from it in each gap.
 use mathlib.Core.Path.{_≡_, refl, sym, ap, _∙_, subst}
 use mathlib.Core.List.{List, [], _∷_, _++_}
-use Prim.Native.Nat.{ℕ, suc, _+_, _-_, _*_, _^_, _≤_, _<_}
+use Prim.Native.Nat.{ℕ, suc, _+_, _*_, _^_, _≤_, _<_}
 use native.Mathlib.Omega.{arith}
 use native.Mathlib.Decide.{ℕ-discrete}
 use lib.Ieee.{Float}
@@ -10,7 +10,7 @@ use Rattle.model.specs.declared.Prices.{Prices}
 use Rattle.model.specs.Whole.{whole}
 use Rattle.model.specs.StopSet.{stopsOf}
 use Rattle.model.specs.Plan.{Plan, decode}
-use Rattle.model.specs.Region.{Region}
+use Rattle.model.specs.declared.Region.{Region}
 use Rattle.delivery.specs.Costs.{tableDriving}
 use Rattle.rebuild_words.specs.Words.{Word, inGap, plansFrom, plansAt, plansOn}
 use Rattle.rebuild_words.specs.Gaps.{regionsOf}
@@ -34,8 +34,7 @@ pub record Walking (t : List ℕ) (v n : ℕ) (p : Prices) (xs regions : List �
       (plansOn (decode v xs) (regionsOf regions) (take m codes₀) (stopsOf left) r) best₀ s₀ best s
   pub past : q ≤ r
   pub few : r ≤ length (regionsOf regions)
-  pub same : take m codes ≡ take m codes₀
-  pub long : length codes ≡ length codes₀
+  pub same : codes ≡ codes₀
   pub bests : length best ≡ length best₀
 
 module _ {t : List ℕ} {v n : ℕ} {p : Prices} {xs regions gaps : List ℕ} {all left q : ℕ} {st : Stand} {codes : List ℕ} {m : ℕ} {best : List ℕ} {s : Score}
@@ -86,7 +85,6 @@ module _ {t : List ℕ} {v n : ℕ} {p : Prices} {xs regions gaps : List ℕ} {a
       past = omega arith;
       few = omega (arith, W .here .gap);
       same = refl;
-      long = refl;
       bests = refl;
     }
 
@@ -114,7 +112,7 @@ module _ {t : List ℕ} {v n : ℕ} {p : Prices} {xs regions gaps : List ℕ} {a
         split : plansOn P gs w L r ≡ plansAt P gs (take m codes₁) L r L ++ plansOn P gs w L (r + 1)
         split =
             plans-gap P gs w L r inside
-            ∙ ap (λ (x : Word). plansAt P gs x L r L ++ plansOn P gs w L (r + 1)) (sym (G .same))
+            ∙ ap (λ (x : Word). plansAt P gs x L r L ++ plansOn P gs w L (r + 1)) (sym (ap (take m) (G .same)))
 
         few-enough : f .count + length (plansAt P gs (take m codes₁) L r L) < 2 ^ 64
         few-enough =
@@ -142,23 +140,22 @@ module _ {t : List ℕ} {v n : ℕ} {p : Prices} {xs regions gaps : List ℕ} {a
           walking-call = record {
             ground = W .ground;
             placed = W .placed;
-            here = subst (λ (x : Word). Here t v p xs regions x L r st′) (sym (G .same)) stands;
+            here = subst (λ (x : Word). Here t v p xs regions x L r st′) (sym (ap (take m) (G .same))) stands;
             room = W .room;
-            short = G .long ∙ W .short;
+            short = ap length (G .same) ∙ W .short;
             kept = G .under .walked .kept;
             few = few-enough;
           }
 
         pub walking-after : (codes₂ : List ℕ) {best₂ : List ℕ} {f′ : Score} → Walked t v n p (plansAt P gs (take m codes₁) L r L) best₁ f best₂ f′
-            → take m codes₂ ≡ take m codes₁ → length codes₂ ≡ length codes₁ → length best₂ ≡ length best₁
+            → codes₂ ≡ codes₁ → length best₂ ≡ length best₁
             → going codes₂ best₂ f′ (r + 1)
-        walking-after codes₂ {best₂} {f′} Q e₂ lc₂ lb₂ = record {
+        walking-after codes₂ {best₂} {f′} Q e₂ lb₂ = record {
           under =
               underway-more t v n p (plansOn P gs w L q) best₀ s₀ (plansOn P gs w L r) best₁ f (G .under)
               (plansAt P gs (take m codes₁) L r L) (plansOn P gs w L (r + 1)) split best₂ f′ Q;
           past = omega (arith, G .past);
           few = omega (arith, inside);
           same = e₂ ∙ G .same;
-          long = lc₂ ∙ G .long;
           bests = lb₂ ∙ G .bests;
         }

@@ -9,7 +9,7 @@ use Rattle.model.specs.Plan.{Plan, placed, decode}
 use Rattle.rebuild_gaps.specs.declared.Stand.{Stand}
 use Rattle.rebuild_gaps.specs.Here.{Ground, Here}
 use Rattle.rebuild_choice.specs.declared.Score.{Score}
-use Rattle.rebuild_choice.specs.Scores.{Kept}
+use Rattle.rebuild_choice.specs.Scores.{Scored}
 
 -- The walk stands at the word of the first m placements in gap q, and is to visit the plans Ps.
 pub record Walkable (t : List ℕ) (v n : ℕ) (p : Prices) (xs regions gaps : List ℕ) (all left q : ℕ) (st : Stand) (codes : List ℕ) (m : ℕ)
@@ -19,5 +19,5 @@ pub record Walkable (t : List ℕ) (v n : ℕ) (p : Prices) (xs regions gaps : L
   pub here : Here t v p xs regions (take m codes) (stopsOf left) q st
   pub room : m + length (stopsOf left) ≤ 7
   pub short : length codes ≡ 7
-  pub kept : Kept t v n p best s
+  pub kept : Scored t v n p best s
   pub few : s .count + length Ps < 2 ^ 64

@@ -1,4 +1,4 @@
--- The loop over the picks: those that are kept so far, and the vehicles that they name. Assumes nothing.
+-- The loop over the picks: those that are kept so far, and the vehicles that they name.
 use Prim.Native.Nat.{ℕ, _+_, _<_, _≤_}
 use native.Mathlib.Omega.{arith}
 use native.Mathlib.Nat.{zero-div}
@@ -23,7 +23,7 @@ abbrev Names : List ℕ → ℕ → Type 0
 Names names named = (k : ℕ) → contains k named ≡ member k names
 
 -- the first i picks are through, and p of them are kept
-pub record Kept (P : Plan) (picks kept₀ kept : List ℕ) (named p i : ℕ) : Type 0 where
+pub record Picking (P : Plan) (picks kept₀ kept : List ℕ) (named p i : ℕ) : Type 0 where
   pub within : i ≤ length picks
   pub few : p ≤ i
   pub long : length kept ≡ length kept₀
@@ -31,7 +31,7 @@ pub record Kept (P : Plan) (picks kept₀ kept : List ℕ) (named p i : ℕ) : T
   pub has : Names names named
   pub rest : take p kept ++ keepPicks P names (drop i picks) ≡ keepPicks P [] picks
 
-pub kept-none : (P : Plan) (picks kept : List ℕ) → Kept P picks kept kept 0 0 0
+pub kept-none : (P : Plan) (picks kept : List ℕ) → Picking P picks kept kept 0 0 0
 kept-none P picks kept = record { within = omega arith; few = omega arith; long = refl; names = []; has = λ k. rw zero-div; rest = refl }
 
 -- one vehicle more
@@ -42,7 +42,7 @@ names-more k names named named′ e h j = rw e (go (tested j k))
     go (inl q) = rw (q .1, q .0, bit-including-same k named)
     go (inr q) = rw (q .1, bit-including-other j k named (q .0)) (h j)
 
-module _ {P : Plan} {picks kept₀ kept : List ℕ} {named p i : ℕ} (c : Kept P picks kept₀ kept named p i) (h : i < length picks) where
+module _ {P : Plan} {picks kept₀ kept : List ℕ} {named p i : ℕ} (c : Picking P picks kept₀ kept named p i) (h : i < length picks) where
   -- the pick at i, and its vehicle
   abbrev s : ℕ
   s = getD picks i 0
@@ -50,7 +50,7 @@ module _ {P : Plan} {picks kept₀ kept : List ℕ} {named p i : ℕ} (c : Kept 
   module _ (k : ℕ) (ek : k ≡ vehicleOf s P) where
     -- nothing changes
     module _ (kept′ : List ℕ) (named′ p′ : ℕ) (a : kept′ ≡ kept) (b : named′ ≡ named) (d : p′ ≡ p) where
-      skipped : keepPicks P (c .names) (s ∷ drop (i + 1) picks) ≡ keepPicks P (c .names) (drop (i + 1) picks) → Kept P picks kept₀ kept′ named′ p′ (i + 1)
+      skipped : keepPicks P (c .names) (s ∷ drop (i + 1) picks) ≡ keepPicks P (c .names) (drop (i + 1) picks) → Picking P picks kept₀ kept′ named′ p′ (i + 1)
       skipped e =
           rw (a, b, d) (record {
             within = omega arith;
@@ -62,16 +62,16 @@ module _ {P : Plan} {picks kept₀ kept : List ℕ} {named p i : ℕ} (c : Kept 
           })
 
       -- the pick is on no vehicle
-      pub kept-off : length P ≤ k → Kept P picks kept₀ kept′ named′ p′ (i + 1)
+      pub kept-off : length P ≤ k → Picking P picks kept₀ kept′ named′ p′ (i + 1)
       kept-off g = skipped (rw (placed-off s P (omega arith)))
 
       -- or on one that is named
-      pub kept-named : k < length P → contains k named ≡ true → Kept P picks kept₀ kept′ named′ p′ (i + 1)
+      pub kept-named : k < length P → contains k named ≡ true → Picking P picks kept₀ kept′ named′ p′ (i + 1)
       kept-named g t = skipped (rw (placed-on s P (omega arith), ← (c .has (vehicleOf s P)), ← ek, t))
 
     -- or it is kept
     pub kept-more : (kept′ : List ℕ) (named′ p′ : ℕ) → length picks ≤ length kept₀ → k < length P → contains k named ≡ false
-        → kept′ ≡ set kept p s → named′ ≡ including k named → p′ ≡ p + 1 → Kept P picks kept₀ kept′ named′ p′ (i + 1)
+        → kept′ ≡ set kept p s → named′ ≡ including k named → p′ ≡ p + 1 → Picking P picks kept₀ kept′ named′ p′ (i + 1)
     kept-more kept′ named′ p′ room g t a b d =
         let placed : isPlaced s P ≡ true = placed-on s P (omega arith) in
         let fresh : member (vehicleOf s P) (c .names) ≡ false = sym (c .has (vehicleOf s P)) ∙ rw (← ek) t in
@@ -86,7 +86,7 @@ module _ {P : Plan} {picks kept₀ kept : List ℕ} {named p i : ℕ} (c : Kept 
         })
 
 -- all picks are through
-pub kept-all : {P : Plan} {picks kept₀ kept : List ℕ} {named p i : ℕ} → Kept P picks kept₀ kept named p i → length picks ≤ i
+pub kept-all : {P : Plan} {picks kept₀ kept : List ℕ} {named p i : ℕ} → Picking P picks kept₀ kept named p i → length picks ≤ i
     → (take p kept ≡ keepPicks P [] picks) × (p ≤ length picks)
 kept-all {P} {picks} {kept₀} {kept} {named} {p} {i} c e =
     (sym (append-nil (take p kept)) ∙ (rw (from-end picks i (omega (arith, c .within))) at (c .rest)), omega (arith, c .within, c .few))

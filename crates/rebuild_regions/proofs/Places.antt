@@ -1,4 +1,4 @@
--- What a search for a stop says of its vehicle and its position. Assumes nothing.
+-- What a search for a stop says of its vehicle and its position.
 use Prim.Native.Nat.{ℕ, _+_, _*_, _<_, _≤_}
 use native.Mathlib.Omega.{arith}
 use mathlib.Core.Path.{_≡_, refl, sym, ap, _∙_}

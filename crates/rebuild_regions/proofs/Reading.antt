@@ -1,4 +1,4 @@
--- Regions written one after another. Assumes nothing.
+-- Regions written one after another.
 use Prim.Native.Nat.{ℕ, zero, suc, _+_, _-_, _*_, _/_, _<_, _≤_}
 use native.Mathlib.Omega.{arith}
 use native.Mathlib.Nat.{zero-add}
@@ -7,15 +7,16 @@ use mathlib.Core.Path.{_≡_, refl, sym, ap, _∙_}
 use mathlib.Core.Bool.{true}
 use mathlib.Core.List.{List, [], _∷_, _++_, map}
 use mathlib.Core.Logic.{_≢_}
-use lib.ListN.{length, getD, take, set, length-set, length-map}
-use lib.Seq.{getD-set-same, getD-set-other, getD-take, take-suc, length-take-le}
+use lib.ListN.{length, getD, take, drop, set, length-set, length-map}
+use lib.Seq.{getD-set-same, getD-set-other, getD-take, take-suc, length-take-le, drop-set-lt}
 use Rattle.model.specs.Lists.{upFrom, count}
 use Rattle.model.specs.Plan.{Plan, isPlaced}
-use Rattle.model.specs.Region.{Region, keepPicks, regionOf, regions}
+use Rattle.model.specs.declared.Region.{Region}
+use Rattle.model.specs.Region.{keepPicks, regionOf, regions, regionAt}
 use Rattle.model.proofs.Lists.{length-upFrom, upFrom-append, count-at}
 use Rattle.model.proofs.Members.{count-in}
 use Rattle.model.proofs.Regions.{kept-placed}
-use Rattle.rebuild_regions.specs.Reading.{regionAt, readRegions, withRegion}
+use Rattle.rebuild_regions.specs.Reading.{readRegions, withRegion}
 
 -- a number outside the three that were written
 stays : (xs : List ℕ) (a b c u v w : ℕ) (j : ℕ) → j ≢ a → j ≢ b → j ≢ c → getD (set (set (set xs a u) b v) c w) j 0 ≡ getD xs j 0
@@ -31,6 +32,15 @@ module _ (xs : List ℕ) (i : ℕ) (g : Region) where
   pub length-with : length (withRegion xs i g) ≡ length xs
   unfolding withRegion
   length-with = simp length-set
+
+  -- what stands after it stays
+  with-after : (k : ℕ) → 3 * i + 3 ≤ k → drop k (withRegion xs i g) ≡ drop k xs
+  unfolding withRegion
+  with-after k h =
+      let ys : List ℕ = set xs (3 * i) (g .vehicle) in
+      drop-set-lt k (set ys (3 * i + 1) (g .from)) (3 * i + 2) (g .to) (omega arith)
+      ∙ drop-set-lt k ys (3 * i + 1) (g .from) (omega arith)
+      ∙ drop-set-lt k xs (3 * i) (g .vehicle) (omega arith)
 
   with-same : 3 * i + 3 ≤ length xs → regionAt (withRegion xs i g) i ≡ g
   unfolding withRegion region
@@ -81,10 +91,11 @@ pub record Written (P : Plan) (size : ℕ) (kept : List ℕ) (p : ℕ) (out₀ o
   pub within : i ≤ p
   pub long : length out ≡ length out₀
   pub so : readRegions i out ≡ map (regionOf P size) (take i kept)
+  pub after : (k : ℕ) → 3 * i ≤ k → drop k out ≡ drop k out₀
 
 pub written-none : (P : Plan) (size : ℕ) (kept : List ℕ) (p : ℕ) (out : List ℕ) → Written P size kept p out out 0
 unfolding readRegions
-written-none P size kept p out = record { within = omega arith; long = refl; so = refl }
+written-none P size kept p out = record { within = omega arith; long = refl; so = refl; after = λ k h. refl }
 
 pub written-more : (P : Plan) (size : ℕ) (kept : List ℕ) (p : ℕ) (out₀ out out′ : List ℕ) (i : ℕ) → i < p → p ≤ length kept → 3 * p ≤ length out₀
     → out′ ≡ withRegion out i (regionOf P size (getD kept i 0)) → Written P size kept p out₀ out i → Written P size kept p out₀ out′ (i + 1)
@@ -95,6 +106,7 @@ written-more P size kept p out₀ out out′ i h k room e w =
       so =
           read-more out i (regionOf P size (getD kept i 0)) (omega (arith, w .long))
           ∙ rw (w .so, add-one, take-suc kept i 0 (omega arith), map-append);
+      after = λ k h. with-after out i (regionOf P size (getD kept i 0)) k (omega arith) ∙ w .after k (omega arith);
     })
 
 -- the first p of a list are the picks that are kept
@@ -109,9 +121,10 @@ module _ (P : Plan) (picks kept : List ℕ) (p : ℕ) (e : take p kept ≡ keepP
   unfolding readRegions regions
   written-none-kept out z = let none : keepPicks P [] picks ≡ [] = sym e ∙ rw z in rw none
 
-  pub written-all : (size : ℕ) (out₀ out : List ℕ) (i : ℕ) → size ≡ (8 - length picks) / p → p ≤ i → Written P size kept p out₀ out i → readRegions p out ≡ regions P picks
+  pub written-all : (size : ℕ) (out₀ out : List ℕ) (i : ℕ) → size ≡ (8 - length picks) / p → p ≤ i → Written P size kept p out₀ out i
+      → (readRegions p out ≡ regions P picks) × (drop (3 * p) out ≡ drop (3 * p) out₀)
   unfolding regions
   written-all size out₀ out i q h w =
       let same : i ≡ p = omega (arith, w .within) in
       let long : length (keepPicks P [] picks) ≡ p = ap length (sym e) ∙ length-take-le p kept room in
-      rw (long, ← q, ← e) (rw same at (w .so))
+      (rw (long, ← q, ← e) (rw same at (w .so)), w .after (3 * p) (omega arith))

@@ -1,13 +1,10 @@
--- Regions as they are lent: three numbers each, vehicle, from and to, one region after another.
+-- Regions as they are lent, one after another.
 use Prim.Native.Nat.{ℕ, _+_, _*_}
 use mathlib.Core.List.{List, map}
-use lib.ListN.{getD, set}
+use lib.ListN.{set}
 use Rattle.model.specs.Lists.{upFrom}
-use Rattle.model.specs.Region.{Region}
-
--- the region that stands at place i
-abbrev pub regionAt : List ℕ → ℕ → Region
-regionAt xs i = record { vehicle = getD xs (3 * i) 0; from = getD xs (3 * i + 1) 0; to = getD xs (3 * i + 2) 0 }
+use Rattle.model.specs.declared.Region.{Region}
+use Rattle.model.specs.Region.{regionAt}
 
 -- the first p regions
 unfoldable pub readRegions : ℕ → List ℕ → List Region

@@ -3,7 +3,7 @@ ghost use mathlib.Core.Path.{_≡_};
 ghost use mathlib.Core.Bool.{true};
 ghost use mathlib.Core.List.{[]};
 ghost use Prim.Native.Nat.{_+_, _*_, _≤_};
-ghost use lib.ListN.{length, take};
+ghost use lib.ListN.{length, take, drop};
 ghost use Rattle.model.specs.Plan.{decode, vehicleOf, isPlaced, Lent, Sizes};
 ghost use Rattle.model.specs.Region.{keepPicks, regionFrom, regionTo, regionOf, regions};
 ghost use Rattle.rebuild_regions.specs.Reading.{readRegions, withRegion};
@@ -86,11 +86,13 @@ fn region_of(plan: &[u32], v: usize, n: usize, pick: u32, size: usize, out: &mut
     out[3 * i + 2] = region_to(size, at, plan[k] as usize) as u32;
 }
 
-// Writes the regions around one or two picks and returns how many there are: with p of k picks kept, (8 − k) / p stops each.
+// Writes the regions around one or two picks and returns how many there are: with p of k picks kept, (8 − k) / p stops each. What the list
+// holds after them stays.
 pub fn regions_of(plan: &[u32], v: usize, n: usize, picks: &[u32], out: &mut [u32]) -> usize
     requires { ⌜ Sizes v n × Lent v n (now plan) ⌝ }
     requires { ⌜ (length (now picks) ≤ 2) × (6 ≤ length (now out)) ⌝ }
     ensures { λ r. ⌜ readRegions r (now (out .exit)) ≡ regions (decode v (now (plan .entry))) (now (picks .entry)) ⌝ }
+    ensures { λ r. ⌜ drop (3 * r) (now (out .exit)) ≡ drop (3 * r) (now (out .entry)) ⌝ }
 {
     let mut kept = [0u32; 2];
     let p = keep_picks(plan, v, n, picks, &mut kept);

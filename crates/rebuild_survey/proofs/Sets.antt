@@ -1,5 +1,5 @@
 -- Sets of stops that grow, one stop after another and one region after another.
-use Prim.Native.Nat.{ℕ, suc, _+_, _-_, _≤_, _<_}
+use Prim.Native.Nat.{ℕ, suc, _+_, _≤_, _<_}
 use native.Mathlib.Omega.{arith}
 use native.Mathlib.Numerals.{add-one}
 use mathlib.Core.Path.{_≡_, sym, ap, _∙_, subst}
@@ -11,14 +11,14 @@ use lib.ListN.{length, getD, take, drop, take-append-drop}
 use lib.Seq.{take-all, take-suc}
 use Rattle.model.specs.Lists.{count, part, concat, Once}
 use Rattle.model.specs.Plan.{Plan, Route, routeOf, decode}
-use Rattle.model.specs.Region.{Region, drainedFrom, drained}
+use Rattle.model.specs.declared.Region.{Region}
+use Rattle.model.specs.Region.{drainedFrom, drained, Stretches, regionAt}
 use Rattle.model.specs.StopSet.{including, stopsOf}
 use Rattle.model.proofs.Lists.{count-at, Tested, tested, count-append, map-append, concat-append}
 use Rattle.model.proofs.Counts.{Below, count-more, count-take-le}
-use Rattle.model.proofs.Regions.{Stretches}
 use Rattle.model.proofs.Arrangements.{drained-le}
 use Rattle.stop_set.proofs.Laws.{count-including, stops-none}
-use Rattle.rebuild_words.specs.Gaps.{regionsOf, regionAt, Gapped}
+use Rattle.rebuild_words.specs.Gaps.{regionsOf, Gapped}
 use Rattle.rebuild_words.proofs.Gaps.{region-at}
 use Rattle.rebuild_survey.specs.Sets.{Alone, Gathers}
 
@@ -94,20 +94,21 @@ module _ (P : Plan) (gs : List Region) (d : Region) where
 -- ---- the region of a turn
 
 module _ (v n : ℕ) (xs regions : List ℕ) (G : Gapped v n xs regions) (q set : ℕ) (h : q < length (regionsOf regions))
-    (g : Gathers 0 (drained (decode v xs) (take q (regionsOf regions))) set) (r : Route) (er : r ≡ routeOf (decode v xs) (regionAt regions q .vehicle)) where
+    (g : Gathers 0 (drained (decode v xs) (take q (regionsOf regions))) set) (u : Region) (eu : u ≡ regionAt regions q)
+    (r : Route) (er : r ≡ routeOf (decode v xs) (u .vehicle)) where
   here : getD (regionsOf regions) q (regionAt regions q) ≡ regionAt regions q
   here = region-at regions q (regionAt regions q) h
 
-  stops : part (regionAt regions q .from) (regionAt regions q .to) r ≡ drainedFrom (decode v xs) (getD (regionsOf regions) q (regionAt regions q))
-  stops = ap (part (regionAt regions q .from) (regionAt regions q .to)) er ∙ ap (drainedFrom (decode v xs)) (sym here)
+  stops : part (u .from) (u .to) r ≡ drainedFrom (decode v xs) (getD (regionsOf regions) q (regionAt regions q))
+  stops = ap (part (u .from) (u .to)) er ∙ ap (drainedFrom (decode v xs)) (eu ∙ sym here)
 
   below : Below 64 (concat (decode v xs))
   below s k = omega (arith, G .plan .below s k, G .sizes .stops)
 
-  pub turn-alone : Alone set (part (regionAt regions q .from) (regionAt regions q .to) r)
+  pub turn-alone : Alone set (part (u .from) (u .to) r)
   turn-alone = subst (Alone set) (sym stops) (region-alone (decode v xs) (regionsOf regions) (regionAt regions q) (G .stretches) (G .plan .once) below q set h g)
 
-  pub turn-gathered : (all : ℕ) → Gathers set (part (regionAt regions q .from) (regionAt regions q .to) r) all
+  pub turn-gathered : (all : ℕ) → Gathers set (part (u .from) (u .to) r) all
       → Gathers 0 (drained (decode v xs) (take (q + 1) (regionsOf regions))) all
   turn-gathered all a =
       region-gathered (decode v xs) (regionsOf regions) (regionAt regions q) (G .stretches) (G .plan .once) below q set h g all

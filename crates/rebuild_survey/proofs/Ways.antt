@@ -21,10 +21,6 @@ pub last-near : (a : ℕ) (r : Route) → a < 80 → Below 64 r → lastPlace a 
 last-near a [] h b = h
 last-near a (s ∷ r) h b = last-near s r (omega (arith, b s (omega (arith, one-same s s refl)))) (λ x k. b x (omega arith))
 
-pub first-near : (a : ℕ) (r : Route) → a < 80 → Below 64 r → firstPlace a r < 80
-first-near a [] h b = h
-first-near a (s ∷ r) h b = omega (arith, b s (omega (arith, one-same s s refl)))
-
 -- a way is the leg to its first place, and the way on from there
 pub way-on : (t : List ℕ) (a : ℕ) (r : Route) (to : ℕ) → tableLegs t a r to ≡ legAt t a (firstPlace to r) + wayOn t r to
 unfolding tableLegs wayOn

@@ -1,6 +1,6 @@
 // Surveys of gaps: what is known of each gap of a plan in advance, and the set of the stops that are taken out of them.
 ghost use mathlib.Core.Path.{_≡_};
-ghost use Prim.Native.Nat.{ℕ, _+_, _*_, _≤_, _<_};
+ghost use Prim.Native.Nat.{_+_, _*_, _≤_, _<_};
 ghost use lib.ListN.{length};
 ghost use Rattle.model.specs.Legs.{LegTable};
 ghost use Rattle.model.specs.Plan.{decode};
@@ -8,7 +8,7 @@ ghost use Rattle.model.specs.Region.{drained};
 ghost use Rattle.distance.specs.Ways.{Drivable};
 ghost use Rattle.rebuild_words.specs.Gaps.{regionsOf, Gapped};
 ghost use Rattle.rebuild_survey.specs.Ways.{Stepped, Measured};
-ghost use Rattle.rebuild_survey.specs.Surveys.{Stored, Surveyed};
+ghost use Rattle.rebuild_survey.specs.Surveys.{Stored, Surveyed, Unsurveyed};
 ghost use Rattle.rebuild_survey.specs.Sets.{Gathers, Alone};
 
 // A way from a place: its length, and the place where it ends.
@@ -90,10 +90,10 @@ pub fn drain(plan: &[u32], v: usize, n: usize, regions: &[u32]) -> u64
     let mut set: u64 = 0;
     let mut q = 0;
     while 3 * q < regions.len() {
-        let k = regions[3 * q] as usize;
-        let from = regions[3 * q + 1] as usize;
-        let to = regions[3 * q + 2] as usize;
-        let route = solution::route(plan, v, n, k);
+        let region = rebuild_words::region_at(regions, q);
+        let from = region.from;
+        let to = region.to;
+        let route = solution::route(plan, v, n, region.vehicle);
         set = gather(set, &route[from..to]);
         q += 1;
     }
@@ -111,18 +111,17 @@ fn store(gaps: &mut [u32], q: usize, gap: Gap)
     gaps[4 * q + 3] = gap.rest;
 }
 
-// Writes what is known of each gap of a plan.
+// Writes what is known of each gap of a plan. The numbers after these stay.
 pub fn survey(legs: &[u32], plan: &[u32], v: usize, n: usize, regions: &[u32], gaps: &mut [u32])
     requires { ⌜ LegTable (now legs) × Gapped v n (now plan) (now regions) × (length (now gaps) ≡ 12) ⌝ }
     ensures { λ _. ⌜ Surveyed (now (legs .entry)) v (now (plan .entry)) (now (regions .entry)) (now (gaps .exit)) ⌝ }
+    ensures { λ _. ⌜ Unsurveyed (now (regions .entry)) (now (gaps .entry)) (now (gaps .exit)) ⌝ }
 {
     let mut q = 0;
     while 3 * q < regions.len() {
-        let k = regions[3 * q] as usize;
-        let from = regions[3 * q + 1] as usize;
-        let to = regions[3 * q + 2] as usize;
-        let route = solution::route(plan, v, n, k);
-        let gap = measure(legs, k, route, from, to);
+        let region = rebuild_words::region_at(regions, q);
+        let route = solution::route(plan, v, n, region.vehicle);
+        let gap = measure(legs, region.vehicle, route, region.from, region.to);
         store(gaps, q, gap);
         q += 1;
     }

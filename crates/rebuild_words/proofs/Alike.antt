@@ -6,9 +6,9 @@ use mathlib.Core.Path.{_≡_, refl, ap, ap₂, _∙_}
 use mathlib.Core.Logic.{inl, inr, ⊎-elim}
 use mathlib.Core.List.{List, [], _∷_, _++_, map, append-assoc}
 use lib.ListN.{length, length-append, length-map}
-use Rattle.model.specs.Lists.{forEach}
+use Rattle.model.specs.Lists.{In, forEach}
 use Rattle.model.proofs.Lists.{map-append}
-use Rattle.model.proofs.Members.{In, in-left, in-right, of-append, in-map, of-map}
+use Rattle.model.proofs.Members.{in-left, in-right, of-append, in-map, of-map}
 
 pub record Alike {A : Type 0} (xs ys : List A) : Type 0 where
   pub into : (x : A) → In x xs → In x ys

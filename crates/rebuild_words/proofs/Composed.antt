@@ -10,11 +10,11 @@ use Rattle.model.specs.Lists.{concat, sum, part, position}
 use Rattle.model.specs.Plan.{Plan, Route, routeOf, placed, unused, encode, decode}
 use Rattle.model.proofs.Lists.{map-append, concat-append, sum-more, position-le}
 use Rattle.model.proofs.PlanForm.{route-part, route-end, lent-length}
-use Rattle.model.proofs.Arrangements.{vehiclesOf}
+use Rattle.model.specs.Region.{vehiclesOf, regionAt}
 use Rattle.pasting.specs.Put.{put}
 use Rattle.pasting.proofs.Put.{take-put, length-put, lent-rest}
 use Rattle.rebuild_words.specs.Words.{Word, planOf}
-use Rattle.rebuild_words.specs.Gaps.{regionsOf, regionAt, Gapped, Within, refilled}
+use Rattle.rebuild_words.specs.Gaps.{regionsOf, Gapped, Within, refilled}
 use Rattle.rebuild_words.proofs.Plans.{length-planOf}
 use Rattle.rebuild_words.proofs.Gaps.{length-vehicles, own-within, route-refilled}
 

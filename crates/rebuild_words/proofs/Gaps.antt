@@ -1,5 +1,5 @@
 -- Regions as they are lent, and the routes of the plan that a word stands for.
-use Prim.Native.Nat.{ℕ, zero, suc, _+_, _-_, _*_, _/_, _%_, _≤_, _<_}
+use Prim.Native.Nat.{ℕ, zero, suc, _+_, _*_, _/_, _%_, _≤_, _<_}
 use native.Mathlib.Nat.{le-of-suc-le-suc, add-zero}
 use native.Mathlib.Numerals.{add-one}
 use native.Mathlib.Decide.{decLt}
@@ -9,17 +9,17 @@ use mathlib.Core.List.{List, [], _∷_, _++_, append-assoc, append-nil}
 use lib.ListN.{length, getD, take, drop, set, length-map, length-append, length-set, take-append-drop, List·getD-map}
 use lib.Seq.{drop-cons, set-at, take-suc, take-all}
 use borrow.Author.Tests.{lt-ltb, le-ltb, eq-eqb, ne-eqb}
-use Rattle.model.specs.Lists.{position}
+use Rattle.model.specs.Lists.{In, position}
 use Rattle.model.specs.Plan.{Plan, Route, routeOf}
-use Rattle.model.specs.Region.{Region}
+use Rattle.model.specs.declared.Region.{Region}
+use Rattle.model.specs.Region.{vehiclesOf, Stretch, Stretches, regionAt}
 use Rattle.model.proofs.Lists.{position-lt, position-member, getD-position, count-member}
-use Rattle.model.proofs.Members.{In, in-count}
-use Rattle.model.proofs.Regions.{Stretch, Stretches}
-use Rattle.model.proofs.Arrangements.{vehiclesOf, spliced}
+use Rattle.model.proofs.Members.{in-count}
+use Rattle.model.proofs.Arrangements.{spliced}
 use Rattle.pasting.specs.Put.{put}
 use Rattle.pasting.proofs.Put.{put-head, put-put}
 use Rattle.rebuild_words.specs.Words.{Word, inGap, planOf}
-use Rattle.rebuild_words.specs.Gaps.{regionsOf, regionAt, refilled, Within, Pasted}
+use Rattle.rebuild_words.specs.Gaps.{regionsOf, refilled, Within, Pasted}
 use Rattle.rebuild_words.proofs.Plans.{in-getD, in-append, route-planOf, other-planOf}
 
 -- ---- the numbers of a region
@@ -173,26 +173,31 @@ module _ (d : List ℕ) (at : ℕ) (w : Word) (q : ℕ) where
 -- ---- what is written of a route
 
 module _ (d : List ℕ) (at : ℕ) (regions : List ℕ) (w : Word) (r : ℕ) (route : Route) where
-  abbrev head : List ℕ
-  head = take (regionAt regions r .from) route
-
-  abbrev tail : List ℕ
-  tail = drop (regionAt regions r .to) route
-
-  refilled-there : 3 * r < length regions → refilled regions w r route ≡ head ++ (inGap r w ++ tail)
-  refilled-there h = rw (lt-ltb (3 * r) (length regions) h)
-
   refilled-none : length regions ≤ 3 * r → refilled regions w r route ≡ route
   refilled-none h = rw (le-ltb (3 * r) (length regions) h)
+
+  pub route-room : length regions ≤ 3 * r → at + length (refilled regions w r route) ≤ length d → at + length route ≤ length d
+  route-room h k = rw (refilled-none h) at k
+
+  pub route-pasted : length regions ≤ 3 * r → (d₁ : List ℕ) (e : ℕ) → e ≡ at + length route → d₁ ≡ put d at route → Pasted d at (refilled regions w r route) d₁ e
+  route-pasted h d₁ e ee e₁ = rw (refilled-none h) (record { ends = ee; holds = e₁ })
+
+-- with region g, which is region r
+module _ (d : List ℕ) (at : ℕ) (regions : List ℕ) (w : Word) (r : ℕ) (route : Route) (g : Region) (eg : g ≡ regionAt regions r) where
+  abbrev head : List ℕ
+  head = take (g .from) route
+
+  abbrev tail : List ℕ
+  tail = drop (g .to) route
+
+  refilled-there : 3 * r < length regions → refilled regions w r route ≡ head ++ (inGap r w ++ tail)
+  refilled-there h = rw (lt-ltb (3 * r) (length regions) h, eg)
 
   -- there is room for the three parts
   pub parts-room : 3 * r < length regions → at + length (refilled regions w r route) ≤ length d
       → at + length head + length (inGap r w) + length tail ≤ length d
   parts-room h k =
       omega (arith, ap length (refilled-there h), length-append head (inGap r w ++ tail), length-append (inGap r w) tail)
-
-  pub route-room : length regions ≤ 3 * r → at + length (refilled regions w r route) ≤ length d → at + length route ≤ length d
-  route-room h k = rw (refilled-none h) at k
 
   -- the three parts are pasted one after another
   pub parts-pasted : 3 * r < length regions → at ≤ length d → (d₁ d₂ d₃ t : List ℕ) (a b e : ℕ) → a ≡ at + length head → d₁ ≡ put d at head
@@ -206,6 +211,3 @@ module _ (d : List ℕ) (at : ℕ) (regions : List ℕ) (w : Word) (r : ℕ) (ro
         ends = omega (arith, ap length et, ap length all, length-append x tail);
         holds = e₃ ∙ rw (two, eb, et) (put-put d x tail at k) ∙ ap (put d at) all;
       }
-
-  pub route-pasted : length regions ≤ 3 * r → (d₁ : List ℕ) (e : ℕ) → e ≡ at + length route → d₁ ≡ put d at route → Pasted d at (refilled regions w r route) d₁ e
-  route-pasted h d₁ e ee e₁ = rw (refilled-none h) (record { ends = ee; holds = e₁ })

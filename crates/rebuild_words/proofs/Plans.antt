@@ -1,5 +1,5 @@
 -- The plan that a word stands for, and what one placement more makes of it.
-use Prim.Native.Nat.{ℕ, zero, suc, _+_, _-_, _/_, _%_, _≤_, _<_}
+use Prim.Native.Nat.{ℕ, zero, suc, _+_, _/_, _%_, _≤_, _<_}
 use native.Mathlib.Nat.{add-zero, add-suc, suc-add, zero-add, le-of-suc-le-suc}
 use native.Mathlib.Omega.{arith}
 use mathlib.Core.Path.{_≡_, refl, sym, ap, _∙_, subst}
@@ -8,15 +8,16 @@ use mathlib.Core.Bool.{Bool, true, false, cond}
 use mathlib.Core.List.{List, [], _∷_, _++_, append-nil}
 use lib.Dec.{eqb}
 use lib.ListN.{length, getD, length-append, length-map}
-use Rattle.model.specs.Lists.{concat, without, upFrom, change, count, Once}
+use Rattle.model.specs.Lists.{In, Distinct, concat, without, upFrom, change, count, Once}
 use Rattle.model.specs.Plan.{Plan, Route, routeOf, placed}
-use Rattle.model.specs.Region.{Region, drained}
+use Rattle.model.specs.declared.Region.{Region}
+use Rattle.model.specs.Region.{drained, vehiclesOf, Stretches}
 use Rattle.model.specs.Rebuild.{replaced}
 use Rattle.model.proofs.Lists.{count-member, count-without, getD-change, getD-change-other, change-change, change-comm, change-same, count-append, length-upFrom}
 use Rattle.model.proofs.Counts.{Below, count-change, length-kept, once-le}
-use Rattle.model.proofs.Members.{In, Distinct, in-map}
-use Rattle.model.proofs.Regions.{Stretches, first-stretch, later-stretches}
-use Rattle.model.proofs.Arrangements.{spliced, vehiclesOf, length-replaced, replaced-other, count-replaced}
+use Rattle.model.proofs.Members.{in-map}
+use Rattle.model.proofs.Regions.{first-stretch, later-stretches}
+use Rattle.model.proofs.Arrangements.{spliced, length-replaced, replaced-other, count-replaced}
 use Rattle.rebuild_words.specs.Words.{Word, code, inGap, sequencesOf, planOf, Placing}
 use Rattle.rebuild_words.proofs.Visits.{in-same, in-other}
 

@@ -6,11 +6,11 @@ use mathlib.Core.Logic.{inl, inr}
 use mathlib.Core.List.{List, [], _∷_, _++_, map, map-map, append-nil}
 use lib.ListN.{length, length-append, length-map}
 use borrow.Author.Tests.{eq-eqb, ne-eqb}
-use Rattle.model.specs.Lists.{upFrom, without, forEach}
+use Rattle.model.specs.Lists.{In, upFrom, without, forEach}
 use Rattle.model.specs.Rebuild.{sequences, fillings}
 use Rattle.model.proofs.Lists.{map-append, count-member, length-without, count-without}
 use Rattle.model.proofs.Counts.{Below}
-use Rattle.model.proofs.Members.{In, of-map, of-forEach, in-count}
+use Rattle.model.proofs.Members.{of-map, of-forEach, in-count}
 use Rattle.rebuild_words.specs.Words.{Word, code, inGap, sequencesOf, words, arrangementCount}
 use Rattle.rebuild_words.proofs.Alike.{Alike, alike-same, alike-trans, alike-append, alike-swap, alike-map, alike-forEach, map-same, forEach-same, length-forEach, map-forEach, forEach-forEach, forEach-map}
 

@@ -11,7 +11,8 @@ use lib.ListN.{length, length-map}
 use Rattle.model.specs.Lists.{without, forEach, upFrom, count}
 use Rattle.model.specs.Job.{Job}
 use Rattle.model.specs.Plan.{Plan}
-use Rattle.model.specs.Region.{Region, drained}
+use Rattle.model.specs.declared.Region.{Region}
+use Rattle.model.specs.Region.{drained}
 use Rattle.model.specs.Rebuild.{fillings, replaced, arrangements, choose}
 use Rattle.model.proofs.Lists.{map-append, count-member, length-without}
 use Rattle.model.proofs.Counts.{Below, length-kept}

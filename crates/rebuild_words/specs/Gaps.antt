@@ -1,26 +1,22 @@
--- The regions of a rebuild as they are lent: three numbers each.
+-- The regions of a rebuild as they are lent, and the plan with something else in their place.
 use mathlib.Core.Path.{_≡_}
 use Prim.Native.Nat.{ℕ, _+_, _*_, _≤_, _<_}
 use mathlib.Core.Bool.{cond}
 use mathlib.Core.List.{List, [], _∷_, _++_}
 use lib.Dec.{ltb}
-use lib.ListN.{length, getD, take, drop}
+use lib.ListN.{length, take, drop}
 use Rattle.model.specs.Plan.{Route, decode, Lent, Sizes}
-use Rattle.model.specs.Region.{Region}
-use Rattle.model.proofs.Regions.{Stretches}
+use Rattle.model.specs.declared.Region.{Region}
+use Rattle.model.specs.Region.{Stretches, regionAt}
 use Rattle.pasting.specs.Put.{put}
 use Rattle.rebuild_words.specs.Words.{Word, inGap}
 
--- vehicle, from, to
+-- all regions of a lent list
 abbrev pub regionsOf : List ℕ → List Region
 regionsOf [] = []
 regionsOf (a ∷ []) = []
 regionsOf (a ∷ b ∷ []) = []
 regionsOf (a ∷ b ∷ c ∷ xs) = record { vehicle = a; from = b; to = c } ∷ regionsOf xs
-
--- the region that stands at r
-abbrev pub regionAt : List ℕ → ℕ → Region
-regionAt xs r = record { vehicle = getD xs (3 * r) 0; from = getD xs (3 * r + 1) 0; to = getD xs (3 * r + 2) 0 }
 
 -- regions of a plan of v routes and n stops: at most three, stretches of different routes
 pub record Gapped (v n : ℕ) (xs regions : List ℕ) : Type 0 where

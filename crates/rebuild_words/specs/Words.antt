@@ -7,7 +7,8 @@ use lib.Dec.{eqb}
 use lib.ListN.{length}
 use Rattle.model.specs.Lists.{upFrom, without, concat, forEach, count}
 use Rattle.model.specs.Plan.{Plan}
-use Rattle.model.specs.Region.{Region, drained}
+use Rattle.model.specs.declared.Region.{Region}
+use Rattle.model.specs.Region.{drained}
 use Rattle.model.specs.Rebuild.{replaced}
 
 abbrev pub Word : Type 0

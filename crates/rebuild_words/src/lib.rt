@@ -1,12 +1,24 @@
 // Words: how some stops are placed in gaps of a plan one after another, and the plan that a word stands for.
 ghost use mathlib.Core.Path.{_≡_};
-ghost use Prim.Native.Nat.{_+_, _*_, _≤_};
+ghost use Prim.Native.Nat.{_+_, _*_, _≤_, _<_};
 ghost use lib.ListN.{length};
 ghost use Rattle.model.specs.Lists.{position};
 ghost use Rattle.model.specs.Plan.{encode, decode, placed};
-ghost use Rattle.model.proofs.Arrangements.{vehiclesOf};
+ghost use Rattle.model.specs.Region.{vehiclesOf, regionAt};
 ghost use Rattle.rebuild_words.specs.Words.{inGap, planOf};
 ghost use Rattle.rebuild_words.specs.Gaps.{regionsOf, Gapped, Within, refilled, Pasted};
+use model::Region;
+
+// The region that stands at place i of those that are lent.
+pub fn region_at(regions: &[u32], i: usize) -> Region
+    requires { ⌜ 3 * i + 2 < length (now regions) ⌝ }
+    ensures { λ r. ⌜ r ≡ regionAt (now (regions .entry)) i ⌝ }
+{
+    let vehicle = regions[3 * i] as usize;
+    let from = regions[3 * i + 1] as usize;
+    let to = regions[3 * i + 2] as usize;
+    Region { vehicle, from, to }
+}
 
 // The region that a vehicle has: its number, or how many regions there are where the vehicle has none.
 fn region_of(regions: &[u32], vehicle: usize) -> usize
@@ -56,8 +68,9 @@ fn paste_route(
     ensures { λ e. ⌜ Pasted (now (to .entry)) at (refilled (now (regions .entry)) (now (word .entry)) r (now (route .entry))) (now (to .exit)) e ⌝ }
 {
     if 3 * r < regions.len() {
-        let from = regions[3 * r + 1] as usize;
-        let past = regions[3 * r + 2] as usize;
+        let g = region_at(regions, r);
+        let from = g.from;
+        let past = g.to;
         let a = pasting::paste(to, at, &route[..from]);
         let b = paste_gap(to, a, word, r as u32);
         return pasting::paste(to, b, &route[past..]);

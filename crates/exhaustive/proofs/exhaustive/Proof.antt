@@ -1,4 +1,3 @@
--- `exhaustive::exhaustive` meets its contract. Assumes nothing.
 use native.Mathlib.Omega.{arith}
 use mathlib.Core.Path.{sym}
 use lib.Seq.{length-take-le}

@@ -1,4 +1,4 @@
--- The proof of the cycle of calls {reach}. The measure is the number of stops that are left. Assumes nothing.
+-- The proof of the cycle of calls {reach}. The measure is the number of stops that are left.
 use Prim.Native.Nat.{ℕ, _+_, _-_, _<_, _≤_}
 use native.Mathlib.Omega.{arith}
 use native.Mathlib.Nat.{pos-of-ne-zero}

@@ -1,4 +1,3 @@
--- `pruned::consider` meets its contract. Assumes nothing.
 use Rattle.pruned.proofs.Preferring.{kept-new, kept-old}
 use borrow.Author.Needs.{needs}
 use Rattle.pruned.proofs.consider.Statement.{statement}

@@ -1,4 +1,3 @@
--- `rebuild::rebuild` meets its contract. Assumes nothing.
 use Prim.Native.Nat.{ℕ, _≤_}
 use native.Mathlib.Omega.{arith}
 use mathlib.Core.Path.{_≡_, sym}
@@ -30,7 +29,7 @@ module _ (c : tie.After-regions-of) where
   two : c .regions-of .result ≤ 2
   two =
       let a = start .args in
-      few (a .legs .now) (a .v) (a .n) (a .prices) (a .plan .now) (a .picks .now) (start .pre .0) (start .pre .1) written (c .regions-of .result) long (c .regions-of .ensures)
+      few (a .legs .now) (a .v) (a .n) (a .prices) (a .plan .now) (a .picks .now) (start .pre .0) (start .pre .1) written (c .regions-of .result) long (c .regions-of .ensures .0)
 
 mul-end : tie.Need-mul-end
 mul-end c = omega (arith, two (c .before))
@@ -46,7 +45,7 @@ rearrange-requires c κs =
     let d = c .before .before .before in
     let s = start d in
     let a = s .args in
-    arrangeable (a .legs .now) (a .v) (a .n) (a .prices) (a .plan .now) (a .picks .now) (s .pre .0) (s .pre .1) (written d) (d .regions-of .result) (long d) (d .regions-of .ensures)
+    arrangeable (a .legs .now) (a .v) (a .n) (a .prices) (a .plan .now) (a .picks .now) (s .pre .0) (s .pre .1) (written d) (d .regions-of .result) (long d) (d .regions-of .ensures .0)
 
 same-length : tie.Need-same-length
 same-length c = search needs
@@ -56,7 +55,7 @@ returns c =
     let d = c .before .before .before .before .before .before in
     let s = start d in
     let a = s .args in
-    rebuilt (a .legs .now) (a .v) (a .n) (a .prices) (a .plan .now) (a .picks .now) (s .pre .0) (s .pre .1) (written d) (d .regions-of .result) (long d) (d .regions-of .ensures)
+    rebuilt (a .legs .now) (a .v) (a .n) (a .prices) (a .plan .now) (a .picks .now) (s .pre .0) (s .pre .1) (written d) (d .regions-of .result) (long d) (d .regions-of .ensures .0)
     _ (c .before .before .rearrange .result) (c .before .before .rearrange .ensures)
 
 pub rebuild-spec : {M : Type 1} → statement M

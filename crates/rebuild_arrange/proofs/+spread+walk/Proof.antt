@@ -1,11 +1,11 @@
 -- The proof of the cycle of calls {spread, walk}. The measure is twice the number of stops that are left, and one more for `walk`, which calls
 -- `spread` on the same stops. Each loop's invariant says that the plans up to those that are still to come are visited, and that the
--- first m placements of the buffer stay.
-use mathlib.Core.Path.{sym, ap, _∙_}
+-- placements are as they were.
+use mathlib.Core.Path.{_≡_, sym, ap, _∙_}
 use Prim.Native.Nat.{ℕ, _+_, _-_, _*_, _<_}
 use native.Mathlib.Nat.{pos-of-ne-zero}
 use native.Mathlib.Omega.{arith}
-use lib.ListN.{length}
+use lib.ListN.{length, length-set}
 use lib.Seq.{length-take-le}
 use Rattle.model.specs.StopSet.{stopsOf}
 use Rattle.stop_set.proofs.Laws.{stops-none}
@@ -77,76 +77,116 @@ spread-lowest-requires t c κs = pos-of-ne-zero (c .loop-test .taken)
 spread-without-requires : (t : ℕ) → spread-lts.Need-without-requires (spread-calls t) (spread-at t) spread.Post spread-Inv-loop spread-μ-loop
 spread-without-requires t c κs = c .lowest .ensures .small
 
+-- a stop is chosen, and there is room for its placement
+module _ (t : ℕ) (c : spread-lts.After-without (spread-calls t) (spread-at t) spread.Post spread-Inv-loop spread-μ-loop) where
+  abbrev spread-start : spread-lts.Start (spread-calls t) (spread-at t) spread.Post spread-Inv-loop spread-μ-loop
+  spread-start = c .before .before .before .before .before .before .before .before .before .before .before
+
+  spread-room : spread-start .args .m < length (c .before .before .before .loop .codes)
+  spread-room = turn-room (spread-start .pre .1) (c .before .before .before .loop .inv) (c .before .lowest .ensures)
+
+  spread-small : spread-start .args .m < 7
+  spread-small = omega (arith, spread-room, ap length (c .before .before .before .loop .inv .same), spread-start .pre .1 .short)
+
+spread-mul-was : (t : ℕ) → spread-lts.Need-mul-was (spread-calls t) (spread-at t) spread.Post spread-Inv-loop spread-μ-loop
+spread-mul-was t c = omega (arith, spread-small t c)
+
+spread-slice-read-was : (t : ℕ) → spread-lts.Need-slice-read-was (spread-calls t) (spread-at t) spread.Post spread-Inv-loop spread-μ-loop
+spread-slice-read-was t c = spread-room t (c .before)
+
 spread-cast-codes : (t : ℕ) → spread-lts.Need-cast-codes (spread-calls t) (spread-at t) spread.Post spread-Inv-loop spread-μ-loop
-spread-cast-codes t c = let g = c .before .before .before .before .before .before .before .before .before .before .before .pre .1 in omega (arith, g .here .gap, g .ground .gapped .few)
+spread-cast-codes t c = let g = spread-start t (c .before) .pre .1 in omega (arith, g .here .gap, g .ground .gapped .few)
 
 spread-mul-codes : (t : ℕ) → spread-lts.Need-mul-codes (spread-calls t) (spread-at t) spread.Post spread-Inv-loop spread-μ-loop
-spread-mul-codes t c = let g = c .before .before .before .before .before .before .before .before .before .before .before .pre .1 in omega (arith, g .here .gap, g .ground .gapped .few)
+spread-mul-codes t c = let g = spread-start t (c .before) .pre .1 in omega (arith, g .here .gap, g .ground .gapped .few)
 
 spread-add-codes : (t : ℕ) → spread-lts.Need-add-codes (spread-calls t) (spread-at t) spread.Post spread-Inv-loop spread-μ-loop
-spread-add-codes t c = let g = c .before .before .before .before .before .before .before .before .before .before .before .pre .1 in omega (arith, g .here .gap, g .ground .gapped .few, c .before .lowest .ensures .small)
+spread-add-codes t c = let g = spread-start t (c .before) .pre .1 in omega (arith, g .here .gap, g .ground .gapped .few, c .before .before .lowest .ensures .small)
 
 spread-mul-codes-2 : (t : ℕ) → spread-lts.Need-mul-codes-2 (spread-calls t) (spread-at t) spread.Post spread-Inv-loop spread-μ-loop
-spread-mul-codes-2 t c =
-    let g = c .before .before .before .before .before .before .before .before .before .before .before .pre .1 in
-    let l = c .before .before .before .loop .inv in
-    omega (arith, turn-room g l (c .before .lowest .ensures), l .long, g .short)
+spread-mul-codes-2 t c = omega (arith, spread-small t (c .before))
 
 spread-slice-write-codes : (t : ℕ) → spread-lts.Need-slice-write-codes (spread-calls t) (spread-at t) spread.Post spread-Inv-loop spread-μ-loop
-spread-slice-write-codes t c = turn-room (c .before .before .before .before .before .before .before .before .before .before .before .pre .1) (c .before .before .before .loop .inv) (c .before .lowest .ensures)
+spread-slice-write-codes t c = spread-room t (c .before)
 
 spread-step-requires : (t : ℕ) → spread-lts.Need-step-requires (spread-calls t) (spread-at t) spread.Post spread-Inv-loop spread-μ-loop
 spread-step-requires t c κs =
-    let a = c .before .before .before .before .before .before .before .before .before .before .before .args in
-    let g = c .before .before .before .before .before .before .before .before .before .before .before .pre .1 in
+    let s = spread-start t (c .before) in
+    let a = s .args in
+    let g = s .pre .1 in
     let k = here-closable (a .legs .now) (a .v) (a .n) (a .prices) (a .plan .now) (a .regions .now) (a .gaps .now) (g .ground) _ _ (a .q) (a .stand) (g .here) in
-    (g .ground .legs, c .before .lowest .ensures .small, k .near, omega (arith, k .short))
+    (g .ground .legs, c .before .before .lowest .ensures .small, k .near, omega (arith, k .short))
 
 spread-without-requires-2 : (t : ℕ) → spread-lts.Need-without-requires-2 (spread-calls t) (spread-at t) spread.Post spread-Inv-loop spread-μ-loop
-spread-without-requires-2 t c κs = c .before .before .lowest .ensures .small
+spread-without-requires-2 t c κs = c .before .before .before .lowest .ensures .small
 
 spread-add-e : (t : ℕ) → spread-lts.Need-add-e (spread-calls t) (spread-at t) spread.Post spread-Inv-loop spread-μ-loop
-spread-add-e t c =
-    let g = c .before .before .before .before .before .before .before .before .before .before .before .before .before .pre .1 in
-    let l = c .before .before .before .before .before .loop .inv in
-    omega (arith, turn-room g l (c .before .before .before .lowest .ensures), l .long, g .short)
+spread-add-e t c = omega (arith, spread-small t (c .before .before .before))
 
 spread-walk-two-requires : (t : ℕ) → spread-lts.Need-walk-two-requires (spread-calls t) (spread-at t) spread.Post spread-Inv-loop spread-μ-loop
 spread-walk-two-requires t c κs =
-    let g = c .before .before .before .before .before .before .before .before .before .before .before .before .before .before .before .before .pre .1 in
-    let l = c .before .before .before .before .before .before .before .before .loop .inv in
-    let f = c .before .before .before .before .before .before .lowest .ensures in
+    let b = c .before .before .before .before .before .before in
+    let s = spread-start t b in
+    let l = b .before .before .before .loop .inv in
+    let f = b .before .lowest .ensures in
     let x = c .before .before .before .without2 .ensures in
-    (turn-call g l f x (c .before .before .before .before .step .ensures), omega (arith, c .before .before .before .before .before .before .before .before .before .size .ensures .stops, c .before .before .if1 .taken, turn-fewer g l f x))
+    (turn-call (s .pre .1) l f x (c .before .before .before .before .step .ensures), omega (arith, b .before .before .before .before .size .ensures .stops, c .before .before .if1 .taken, turn-fewer (s .pre .1) l f x))
+
+spread-mul-codes-3 : (t : ℕ) → spread-lts.Need-mul-codes-3 (spread-calls t) (spread-at t) spread.Post spread-Inv-loop spread-μ-loop
+spread-mul-codes-3 t c = omega (arith, spread-small t (c .before .before .before .before .before .before .before .before .before .before .before))
+
+spread-slice-write-codes-2 : (t : ℕ) → spread-lts.Need-slice-write-codes-2 (spread-calls t) (spread-at t) spread.Post spread-Inv-loop spread-μ-loop
+spread-slice-write-codes-2 t c =
+    let b = c .before .before .before .before .before .before .before .before .before .before .before in
+    let k = c .before .before .before .before .walk-two in
+    let e : length (k .last .1 .1 .1 .1 .1 .1 .1 .1 .1 .1 .1 .0) ≡ length (b .before .before .before .loop .codes) = k .kept .1 .1 .1 .1 .1 .1 .1 .1 .1 .1 .1 .0 ∙ simp length-set in
+    omega (arith, spread-room t b)
 
 spread-loop-less : (t : ℕ) → spread-lts.Need-loop-less (spread-calls t) (spread-at t) spread.Post spread-Inv-loop spread-μ-loop
-spread-loop-less t c = turn-less (c .before .before .before .before .before .before .before .before .before .before .before .before .before .before .before .before .before .before .before .before .before .pre .1) (c .before .before .before .before .before .before .before .before .before .before .before .before .before .loop .inv) (c .before .before .before .before .before .before .before .before .before .before .before .lowest .ensures) (c .before .before .before .before .before .before .before .before .before .before .without .ensures)
+spread-loop-less t c =
+    let b = c .before .before .before .before .before .before .before .before .before .before .before in
+    turn-less (spread-start t b .pre .1) (b .before .before .before .loop .inv) (b .before .lowest .ensures) (b .without .ensures)
 
 spread-loop-again : (t : ℕ) → spread-lts.Need-loop-again (spread-calls t) (spread-at t) spread.Post spread-Inv-loop spread-μ-loop
 spread-loop-again t c =
+    let b = c .before .before .before .before .before .before .before .before .before .before .before in
     let k = c .before .before .before .before .walk-two in
-    turn-after (c .before .before .before .before .before .before .before .before .before .before .before .before .before .before .before .before .before .before .before .before .before .pre .1) (c .before .before .before .before .before .before .before .before .before .before .before .before .before .loop .inv) (c .before .before .before .before .before .before .before .before .before .before .before .lowest .ensures) (c .before .before .before .before .before .before .before .before .without2 .ensures) (k .last .1 .1 .1 .1 .1 .1 .1 .1 .1 .1 .1 .0) {best′ = k .last .1 .1 .1 .1 .1 .1 .1 .1 .1 .1 .1 .1 .1 .0} (c .before .before .before .before .before .before .before .before .before .before .without .ensures) (k .ensures .0) (k .ensures .1)
-    (k .kept .1 .1 .1 .1 .1 .1 .1 .1 .1 .1 .1 .0) (k .kept .1 .1 .1 .1 .1 .1 .1 .1 .1 .1 .1 .1 .1 .0)
+    turn-after (spread-start t b .pre .1) (b .before .before .before .loop .inv) (b .before .lowest .ensures) (c .before .before .before .before .before .before .before .before .without2 .ensures)
+    (k .last .1 .1 .1 .1 .1 .1 .1 .1 .1 .1 .1 .0) {best′ = k .last .1 .1 .1 .1 .1 .1 .1 .1 .1 .1 .1 .1 .1 .0} (b .without .ensures) (k .ensures .0) (k .ensures .1) (k .kept .1 .1 .1 .1 .1 .1 .1 .1 .1 .1 .1 .1 .1 .0)
 
 spread-walk-requires : (t : ℕ) → spread-lts.Need-walk-requires (spread-calls t) (spread-at t) spread.Post spread-Inv-loop spread-μ-loop
 spread-walk-requires t c κs =
-    let s = c .before .before .before .before .before .before .before .before .before .before .before .before .before .before .before .before in
-    let l = c .before .before .before .before .before .before .before .before .loop .inv in
-    let f = c .before .before .before .before .before .before .lowest .ensures in
+    let b = c .before .before .before .before .before .before in
+    let s = spread-start t b in
+    let l = b .before .before .before .loop .inv in
+    let f = b .before .lowest .ensures in
     let x = c .before .before .before .without2 .ensures in
     (omega (arith, s .pre .0, turn-fewer (s .pre .1) l f x), turn-call (s .pre .1) l f x (c .before .before .before .before .step .ensures))
 
+spread-mul-codes-4 : (t : ℕ) → spread-lts.Need-mul-codes-4 (spread-calls t) (spread-at t) spread.Post spread-Inv-loop spread-μ-loop
+spread-mul-codes-4 t c = omega (arith, spread-small t (c .before .before .before .before .before .before .before .before .before .before .before))
+
+spread-slice-write-codes-3 : (t : ℕ) → spread-lts.Need-slice-write-codes-3 (spread-calls t) (spread-at t) spread.Post spread-Inv-loop spread-μ-loop
+spread-slice-write-codes-3 t c =
+    let b = c .before .before .before .before .before .before .before .before .before .before .before in
+    let k = c .before .before .before .before .walk in
+    let e : length (k .last .1 .1 .1 .1 .1 .1 .1 .1 .1 .1 .1 .0) ≡ length (b .before .before .before .loop .codes) = k .kept .1 .1 .1 .1 .1 .1 .1 .1 .1 .1 .1 .0 ∙ simp length-set in
+    omega (arith, spread-room t b)
+
 spread-loop-less-2 : (t : ℕ) → spread-lts.Need-loop-less-2 (spread-calls t) (spread-at t) spread.Post spread-Inv-loop spread-μ-loop
-spread-loop-less-2 t c = turn-less (c .before .before .before .before .before .before .before .before .before .before .before .before .before .before .before .before .before .before .before .before .before .pre .1) (c .before .before .before .before .before .before .before .before .before .before .before .before .before .loop .inv) (c .before .before .before .before .before .before .before .before .before .before .before .lowest .ensures) (c .before .before .before .before .before .before .before .before .before .before .without .ensures)
+spread-loop-less-2 t c =
+    let b = c .before .before .before .before .before .before .before .before .before .before .before in
+    turn-less (spread-start t b .pre .1) (b .before .before .before .loop .inv) (b .before .lowest .ensures) (b .without .ensures)
 
 spread-loop-again-2 : (t : ℕ) → spread-lts.Need-loop-again-2 (spread-calls t) (spread-at t) spread.Post spread-Inv-loop spread-μ-loop
 spread-loop-again-2 t c =
+    let b = c .before .before .before .before .before .before .before .before .before .before .before in
     let k = c .before .before .before .before .walk in
-    turn-after (c .before .before .before .before .before .before .before .before .before .before .before .before .before .before .before .before .before .before .before .before .before .pre .1) (c .before .before .before .before .before .before .before .before .before .before .before .before .before .loop .inv) (c .before .before .before .before .before .before .before .before .before .before .before .lowest .ensures) (c .before .before .before .before .before .before .before .before .without2 .ensures) (k .last .1 .1 .1 .1 .1 .1 .1 .1 .1 .1 .1 .0) {best′ = k .last .1 .1 .1 .1 .1 .1 .1 .1 .1 .1 .1 .1 .1 .0} (c .before .before .before .before .before .before .before .before .before .before .without .ensures) (k .ensures .0) (k .ensures .1)
-    (k .kept .1 .1 .1 .1 .1 .1 .1 .1 .1 .1 .1 .0) (k .kept .1 .1 .1 .1 .1 .1 .1 .1 .1 .1 .1 .1 .1 .0)
+    turn-after (spread-start t b .pre .1) (b .before .before .before .loop .inv) (b .before .lowest .ensures) (c .before .before .before .before .before .before .before .before .without2 .ensures)
+    (k .last .1 .1 .1 .1 .1 .1 .1 .1 .1 .1 .1 .0) {best′ = k .last .1 .1 .1 .1 .1 .1 .1 .1 .1 .1 .1 .1 .1 .0} (b .without .ensures) (k .ensures .0) (k .ensures .1) (k .kept .1 .1 .1 .1 .1 .1 .1 .1 .1 .1 .1 .1 .1 .0)
 
 spread-same-length : (t : ℕ) → spread-lts.Need-same-length (spread-calls t) (spread-at t) spread.Post spread-Inv-loop spread-μ-loop
-spread-same-length t c = c .before .loop .inv .long
+spread-same-length t c = ap length (c .before .loop .inv .same)
 
 spread-same-length-2 : (t : ℕ) → spread-lts.Need-same-length-2 (spread-calls t) (spread-at t) spread.Post spread-Inv-loop spread-μ-loop
 spread-same-length-2 t c = c .before .loop .inv .bests
@@ -203,10 +243,10 @@ walk-loop-again t c =
     let k = c .before .before .before .before .spread in
     let o = c .before .before .before .before .before .before .before .before .before .before .before .before .before .meet in
     walking-after (c .before .before .before .before .before .before .before .before .before .before .before .before .before .before .before .before .before .before .before .before .before .before .before .pre .1) {best₀ = o .last .1 .1 .1 .1 .1 .1 .1 .1 .1 .1 .1 .1 .0} (o .ensures .walked) (c .before .before .before .before .before .before .before .before .before .loop .inv) (c .before .before .before .before .before .before .before .before .loop-test .taken) (k .last .1 .1 .1 .1 .1 .1 .1 .1 .1 .1 .1 .0) {best₂ = k .last .1 .1 .1 .1 .1 .1 .1 .1 .1 .1 .1 .1 .1 .0} (k .ensures .0) (k .ensures .1)
-    (k .kept .1 .1 .1 .1 .1 .1 .1 .1 .1 .1 .1 .0) (k .kept .1 .1 .1 .1 .1 .1 .1 .1 .1 .1 .1 .1 .1 .0)
+    (k .kept .1 .1 .1 .1 .1 .1 .1 .1 .1 .1 .1 .1 .1 .0)
 
 walk-same-length : (t : ℕ) → walk-lts.Need-same-length (walk-calls t) (walk-at t) walk.Post walk-Inv-loop walk-μ-loop
-walk-same-length t c = c .before .loop .inv .long
+walk-same-length t c = ap length (c .before .loop .inv .same)
 
 walk-same-length-2 : (t : ℕ) → walk-lts.Need-same-length-2 (walk-calls t) (walk-at t) walk.Post walk-Inv-loop walk-μ-loop
 walk-same-length-2 t c = c .before .loop .inv .bests ∙ c .before .before .before .before .before .meet .kept .1 .1 .1 .1 .1 .1 .1 .1 .1 .1 .1 .1 .0
@@ -221,6 +261,6 @@ pub +spread+walk-spec : {M : Type 1} → statement M
 +spread+walk-spec =
     close μ-spread μ-walk
     (λ t. spread-lts.spec (spread-calls t) (spread-at t) spread.Post spread-Inv-loop spread-μ-loop
-    (spread-size-requires t) (spread-loop-holds t) (spread-lowest-requires t) (spread-without-requires t) (spread-cast-codes t) (spread-mul-codes t) (spread-add-codes t) (spread-mul-codes-2 t) (spread-slice-write-codes t) (spread-step-requires t) (spread-without-requires-2 t) (spread-add-e t) (spread-walk-two-requires t) (spread-loop-less t) (spread-loop-again t) (spread-walk-requires t) (spread-loop-less-2 t) (spread-loop-again-2 t) (spread-same-length t) (spread-same-length-2 t) (spread-returns t))
+    (spread-size-requires t) (spread-loop-holds t) (spread-lowest-requires t) (spread-without-requires t) (spread-mul-was t) (spread-slice-read-was t) (spread-cast-codes t) (spread-mul-codes t) (spread-add-codes t) (spread-mul-codes-2 t) (spread-slice-write-codes t) (spread-step-requires t) (spread-without-requires-2 t) (spread-add-e t) (spread-walk-two-requires t) (spread-mul-codes-3 t) (spread-slice-write-codes-2 t) (spread-loop-less t) (spread-loop-again t) (spread-walk-requires t) (spread-mul-codes-4 t) (spread-slice-write-codes-3 t) (spread-loop-less-2 t) (spread-loop-again-2 t) (spread-same-length t) (spread-same-length-2 t) (spread-returns t))
     (λ t. walk-lts.spec (walk-calls t) (walk-at t) walk.Post walk-Inv-loop walk-μ-loop
     (walk-size-requires t) (walk-slice-reshare-prefix-meet t) (walk-slice-aggregate-meet t) (walk-meet-requires t) (walk-loop-holds t) (walk-mul-loop t) (walk-resume-requires t) (walk-spread-requires t) (walk-add-r t) (walk-loop-less t) (walk-loop-again t) (walk-same-length t) (walk-same-length-2 t) (walk-returns t))

@@ -1,4 +1,3 @@
--- `rebuild_arrange::arrange` meets its contract.
 use Prim.Native.Nat.{_+_}
 use mathlib.Core.Path.{refl, sym}
 use native.Mathlib.Omega.{arith}

@@ -1,4 +1,3 @@
--- `rebuild_arrange::begin` meets its contract.
 use mathlib.Core.Path.{_∙_}
 use Rattle.rebuild_arrange.proofs.Arranging.{begin-fits, begin-ready, begin-openable, begun}
 use borrow.Author.Needs.{needs}
@@ -15,19 +14,19 @@ compose-requires : tie.Need-compose-requires
 compose-requires c κs =
     let s = c .before .before .before .before .before .before .before .before .before .before .before in
     let g = c .before .before .before .before .survey in
-    (s .pre .0 .gapped, (s .pre .1 .2, begin-fits (s .args .legs .now) (s .args .v) (s .args .n) (s .args .prices) (s .args .plan .now) (s .args .regions .now) (s .pre .0) (g .last .1 .1 .1 .1 .1 .0) (g .ensures) (g .kept .1 .1 .1 .1 .1 .0 ∙ s .pre .1 .1)))
+    (s .pre .0 .gapped, (s .pre .1 .2, begin-fits (s .args .legs .now) (s .args .v) (s .args .n) (s .args .prices) (s .args .plan .now) (s .args .regions .now) (s .pre .0) (g .last .1 .1 .1 .1 .1 .0) (g .ensures .0) (g .kept .1 .1 .1 .1 .1 .0 ∙ s .pre .1 .1)))
 
 driving-cost-requires : tie.Need-driving-cost-requires
 driving-cost-requires c κs =
     let s = c .before .before .before .before .before .before .before .before .before .before .before .before .before .before .before in
     let g = c .before .before .before .before .before .before .before .before .survey in
-    begin-ready (s .args .legs .now) (s .args .v) (s .args .n) (s .args .prices) (s .args .plan .now) (s .args .regions .now) (s .pre .0) (g .last .1 .1 .1 .1 .1 .0) (g .ensures) (g .kept .1 .1 .1 .1 .1 .0 ∙ s .pre .1 .1) _ (c .before .before .before .compose .ensures)
+    begin-ready (s .args .legs .now) (s .args .v) (s .args .n) (s .args .prices) (s .args .plan .now) (s .args .regions .now) (s .pre .0) (g .last .1 .1 .1 .1 .1 .0) (g .ensures .0) (g .kept .1 .1 .1 .1 .1 .0 ∙ s .pre .1 .1) _ (c .before .before .before .compose .ensures)
 
 open-requires : tie.Need-open-requires
 open-requires c κs =
     let s = c .before .before .before .before .before .before .before .before .before .before .before .before .before .before .before .before .before in
     let g = c .before .before .before .before .before .before .before .before .before .before .survey in
-    begin-openable (s .args .legs .now) (s .args .v) (s .args .n) (s .args .prices) (s .args .plan .now) (s .args .regions .now) (s .pre .0) (g .last .1 .1 .1 .1 .1 .0) (g .ensures) (g .kept .1 .1 .1 .1 .1 .0 ∙ s .pre .1 .1) _ (c .before .before .before .before .before .compose .ensures) (s .pre .1 .0)
+    begin-openable (s .args .legs .now) (s .args .v) (s .args .n) (s .args .prices) (s .args .plan .now) (s .args .regions .now) (s .pre .0) (g .last .1 .1 .1 .1 .1 .0) (g .ensures .0) (g .kept .1 .1 .1 .1 .1 .0 ∙ s .pre .1 .1) _ (c .before .before .before .before .before .compose .ensures) (s .pre .1 .0)
 
 same-length : tie.Need-same-length
 same-length c = search needs
@@ -39,7 +38,7 @@ returns : tie.Need-returns
 returns c =
     let s = c .before .before .before .before .before .before .before .before .before .before .before .before .before .before .before .before .before .before in
     let g = c .before .before .before .before .before .before .before .before .before .before .before .survey in
-    begun (s .args .legs .now) (s .args .v) (s .args .n) (s .args .prices) (s .args .plan .now) (s .args .regions .now) (s .pre .0) (g .last .1 .1 .1 .1 .1 .0) (g .ensures) (g .kept .1 .1 .1 .1 .1 .0 ∙ s .pre .1 .1) _ (c .before .before .before .before .before .before .compose .ensures) (s .pre .1 .0)
+    begun (s .args .legs .now) (s .args .v) (s .args .n) (s .args .prices) (s .args .plan .now) (s .args .regions .now) (s .pre .0) (g .last .1 .1 .1 .1 .1 .0) (g .ensures .0) (g .kept .1 .1 .1 .1 .1 .0 ∙ s .pre .1 .1) _ (c .before .before .before .before .before .before .compose .ensures) (s .pre .1 .0)
     (c .before .before .driving-cost .result) (c .before .before .driving-cost .ensures) (c .«open» .result) (c .«open» .ensures)
 
 pub begin-spec : {M : Type 1} → statement M

@@ -1,4 +1,3 @@
--- `rebuild_arrange::visit` meets its contract.
 use mathlib.Core.Path.{_≡_, refl, _∙_}
 use native.Mathlib.Nat.{pos-of-ne-zero}
 use Rattle.model.specs.Plan.{placed, decode}

@@ -1,4 +1,3 @@
--- `rebuild_choice::ahead` meets its contract.
 use Rattle.rebuild_choice.proofs.Tests.{or-first, or-second}
 use borrow.Author.Needs.{needs}
 use Rattle.rebuild_choice.proofs.ahead.Statement.{statement}

@@ -1,4 +1,3 @@
--- `rebuild_choice::behind` meets its contract.
 use mathlib.Core.Path.{refl}
 use Rattle.rebuild_choice.proofs.Tests.{or-first, or-second, and-first, and-none}
 use borrow.Author.Needs.{needs}

@@ -1,4 +1,3 @@
--- `rebuild_choice::consider` meets its contract.
 use Prim.Native.Nat.{_+_}
 use mathlib.Core.Path.{refl, sym, _∙_}
 use native.Mathlib.Omega.{arith}

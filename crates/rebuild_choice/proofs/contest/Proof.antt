@@ -1,4 +1,3 @@
--- `rebuild_choice::contest` meets its contract.
 use mathlib.Core.Path.{refl}
 use Rattle.rebuild_words.proofs.Composed.{composed-wide}
 use Rattle.rebuild_gaps.specs.Here.{planAt}

@@ -1,4 +1,3 @@
--- `rebuild_choice::meet` meets its contract.
 use mathlib.Core.Path.{refl}
 use Rattle.rebuild_choice.proofs.Meeting.{meet-weighable, meet-comparable, met}
 use borrow.Author.Needs.{needs}

@@ -1,4 +1,3 @@
--- `rebuild_choice::weigh` meets its contract.
 use mathlib.Core.Path.{refl, ap₂, _∙_}
 use lib.Ieee.{binary64, add}
 use Rattle.delivery.proofs.Laws.{sum-exact}

@@ -1,4 +1,3 @@
--- `rebuild_gaps::close` meets its contract.
 use Rattle.rebuild_gaps.proofs.Stands.{closes-is}
 use borrow.Author.Needs.{needs}
 use Rattle.rebuild_gaps.proofs.close.Statement.{statement}

@@ -1,4 +1,3 @@
--- `rebuild_gaps::open` meets its contract.
 use mathlib.Core.Path.{refl}
 use Rattle.rebuild_survey.specs.Surveys.{headOf, beforeOf}
 use Rattle.rebuild_gaps.proofs.Stands.{opens-is}
@@ -38,7 +37,7 @@ returns c =
     let s = c .before .before .before .before .before in
     record {
       others = opens-is (s .args .legs .now) (s .args .gaps .now) (s .args .q) (s .args .prices) (headOf (s .args .gaps .now) (s .args .q)) (beforeOf (s .args .gaps .now) (s .args .q))
-          (c .close .result) (s .args .driving) (c .close .ensures);
+          (c .close .result) (s .args .driving) (s .pre) (c .close .ensures);
       gone = refl;
       place = refl;
     }

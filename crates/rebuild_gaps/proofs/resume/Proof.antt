@@ -1,4 +1,3 @@
--- `rebuild_gaps::resume` meets its contract.
 use mathlib.Core.Path.{refl}
 use Rattle.rebuild_gaps.proofs.resume.Statement.{statement}
 use Rattle.rebuild_gaps.proofs.resume.Tie as tie

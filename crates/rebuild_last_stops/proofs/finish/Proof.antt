@@ -1,5 +1,5 @@
--- `rebuild_last_stops::finish` meets its contract. It is `walk` with `place_last` in the place of `spread`, and has the same invariant.
-use mathlib.Core.Path.{sym, _∙_}
+-- This is `walk` with `place_last` in the place of `spread`, and has the same invariant.
+use mathlib.Core.Path.{sym, ap, _∙_}
 use Prim.Native.Nat.{_-_}
 use native.Mathlib.Omega.{arith}
 use lib.ListN.{length}
@@ -16,8 +16,8 @@ Inv-loop legs v n prices plan regions gaps all left q stand codes₀ m best₀ u
 abbrev μ-loop : tie.MeasureT-loop
 μ-loop legs v n prices plan regions gaps all left q stand codes₀ m best₀ unplaced found₀ driving gap₀ codes best found gap = length regions - gap
 
-one-or-none-requires : tie.Need-one-or-none-requires Inv-loop μ-loop
-one-or-none-requires c κs = c .before .before .before .before .before .before .pre .1
+size-requires : tie.Need-size-requires Inv-loop μ-loop
+size-requires c κs = tt
 
 slice-reshare-prefix-meet : tie.Need-slice-reshare-prefix-meet Inv-loop μ-loop
 slice-reshare-prefix-meet c = let g = c .before .before .before .before .before .before .before .pre .0 in omega (arith, g .room, g .short)
@@ -26,7 +26,7 @@ slice-aggregate-meet : tie.Need-slice-aggregate-meet Inv-loop μ-loop
 slice-aggregate-meet c = let g = c .before .before .before .before .before .before .before .before .pre .0 in sym (length-take-le _ _ (omega (arith, g .room, g .short)))
 
 meet-requires : tie.Need-meet-requires Inv-loop μ-loop
-meet-requires c κs = walk-meetable (c .before .before .before .before .before .before .before .before .before .pre .0) (c .before .before .one-or-none .ensures)
+meet-requires c κs = walk-meetable (c .before .before .before .before .before .before .before .before .before .pre .0) (c .before .before .size .ensures .stops)
 
 same-length : tie.Need-same-length Inv-loop μ-loop
 same-length c = search needs
@@ -36,7 +36,7 @@ same-length-2 c = search needs
 
 returns : tie.Need-returns Inv-loop μ-loop
 returns c =
-    let e = c .before .before .before .before .before .before .before .one-or-none .ensures in
+    let e = c .before .before .before .before .before .before .before .size .ensures .stops in
     (walk-alone (c .before .before .before .before .before .before .before .before .before .before .before .before .before .before .pre .0) (sym e ∙ c .if1 .taken) {after = c .before .before .before .before .meet .last .1 .1 .1 .1 .1 .1 .1 .1 .1 .1 .1 .1 .0} (c .before .before .before .before .meet .ensures .walked), search needs)
 
 loop-holds : tie.Need-loop-holds Inv-loop μ-loop
@@ -52,7 +52,7 @@ place-last-requires : tie.Need-place-last-requires Inv-loop μ-loop
 place-last-requires c κs =
     let s = c .before .before .before .before .before .before .before .before .before .before .before .before .before .before .before .before .before .before .before in
     let k = c .before .before .before .before .before .before .before .before .before .meet in
-    (walking-call (s .pre .0) {best₀ = k .last .1 .1 .1 .1 .1 .1 .1 .1 .1 .1 .1 .1 .0} (k .ensures .walked) (c .before .before .before .before .loop .inv) (c .before .before .before .loop-test .taken) (k .ensures .driving) (c .before .before .resume .ensures), omega (arith, s .pre .1, c .before .before .before .before .before .before .before .before .before .before .before .before .one-or-none .ensures, c .before .before .before .before .before .if1 .left))
+    (walking-call (s .pre .0) {best₀ = k .last .1 .1 .1 .1 .1 .1 .1 .1 .1 .1 .1 .1 .0} (k .ensures .walked) (c .before .before .before .before .loop .inv) (c .before .before .before .loop-test .taken) (k .ensures .driving) (c .before .before .resume .ensures), omega (arith, s .pre .1, c .before .before .before .before .before .before .before .before .before .before .before .before .size .ensures .stops, c .before .before .before .before .before .if1 .left))
 
 add-gap : tie.Need-add-gap Inv-loop μ-loop
 add-gap c = omega (arith, c .before .before .before .before .before .before .before .before .before .loop .inv .few, c .before .before .before .before .before .before .before .before .before .before .before .before .before .before .before .before .before .before .before .before .before .before .before .before .pre .0 .ground .gapped .few)
@@ -65,10 +65,10 @@ loop-again c =
     let k = c .before .before .before .before .place-last in
     let o = c .before .before .before .before .before .before .before .before .before .before .before .before .before .before .meet in
     walking-after (c .before .before .before .before .before .before .before .before .before .before .before .before .before .before .before .before .before .before .before .before .before .before .before .before .pre .0) {best₀ = o .last .1 .1 .1 .1 .1 .1 .1 .1 .1 .1 .1 .1 .0} (o .ensures .walked) (c .before .before .before .before .before .before .before .before .before .loop .inv) (c .before .before .before .before .before .before .before .before .loop-test .taken) (k .last .1 .1 .1 .1 .1 .1 .1 .1 .1 .1 .1 .0) {best₂ = k .last .1 .1 .1 .1 .1 .1 .1 .1 .1 .1 .1 .1 .1 .0} (k .ensures .0) (k .ensures .1)
-    (k .kept .1 .1 .1 .1 .1 .1 .1 .1 .1 .1 .1 .0) (k .kept .1 .1 .1 .1 .1 .1 .1 .1 .1 .1 .1 .1 .1 .0)
+    (k .kept .1 .1 .1 .1 .1 .1 .1 .1 .1 .1 .1 .1 .1 .0)
 
 same-length-3 : tie.Need-same-length-3 Inv-loop μ-loop
-same-length-3 c = c .before .loop .inv .long
+same-length-3 c = ap length (c .before .loop .inv .same)
 
 same-length-4 : tie.Need-same-length-4 Inv-loop μ-loop
 same-length-4 c = c .before .loop .inv .bests ∙ c .before .before .before .before .before .before .meet .kept .1 .1 .1 .1 .1 .1 .1 .1 .1 .1 .1 .1 .0
@@ -85,7 +85,7 @@ finish-spec =
     (tie.spec
     Inv-loop
     μ-loop
-    one-or-none-requires
+    size-requires
     slice-reshare-prefix-meet
     slice-aggregate-meet
     meet-requires

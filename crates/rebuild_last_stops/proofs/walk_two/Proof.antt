@@ -1,5 +1,5 @@
--- `rebuild_last_stops::walk_two` meets its contract. It is `walk` with `spread_two` in the place of `spread`, and has the same invariant.
-use mathlib.Core.Path.{sym, _∙_}
+-- This is `walk` with `spread_two` in the place of `spread`, and has the same invariant.
+use mathlib.Core.Path.{sym, ap, _∙_}
 use Prim.Native.Nat.{_-_}
 use native.Mathlib.Omega.{arith}
 use lib.ListN.{length}
@@ -53,10 +53,10 @@ loop-again c =
     let k = c .before .before .before .before .spread-two in
     let o = c .before .before .before .before .before .before .before .before .before .before .before .before .before .meet in
     walking-after (c .before .before .before .before .before .before .before .before .before .before .before .before .before .before .before .before .before .before .before .before .before .before .before .pre .0) {best₀ = o .last .1 .1 .1 .1 .1 .1 .1 .1 .1 .1 .1 .1 .0} (o .ensures .walked) (c .before .before .before .before .before .before .before .before .before .loop .inv) (c .before .before .before .before .before .before .before .before .loop-test .taken) (k .last .1 .1 .1 .1 .1 .1 .1 .1 .1 .1 .1 .0) {best₂ = k .last .1 .1 .1 .1 .1 .1 .1 .1 .1 .1 .1 .1 .1 .0} (k .ensures .0) (k .ensures .1)
-    (k .kept .1 .1 .1 .1 .1 .1 .1 .1 .1 .1 .1 .0) (k .kept .1 .1 .1 .1 .1 .1 .1 .1 .1 .1 .1 .1 .1 .0)
+    (k .kept .1 .1 .1 .1 .1 .1 .1 .1 .1 .1 .1 .1 .1 .0)
 
 same-length : tie.Need-same-length Inv-loop μ-loop
-same-length c = c .before .loop .inv .long
+same-length c = ap length (c .before .loop .inv .same)
 
 same-length-2 : tie.Need-same-length-2 Inv-loop μ-loop
 same-length-2 c = c .before .loop .inv .bests ∙ c .before .before .before .before .before .meet .kept .1 .1 .1 .1 .1 .1 .1 .1 .1 .1 .1 .1 .0

@@ -1,4 +1,3 @@
--- `rebuild_regions::keep_picks` meets its contract. Assumes nothing.
 use Prim.Native.Nat.{_-_}
 use native.Mathlib.Omega.{arith}
 use mathlib.Core.Path.{sym, _∙_}
@@ -7,12 +6,12 @@ use borrow.Author.Tests.{not-true, not-false}
 use lib.ListN.{length}
 use Rattle.model.specs.Plan.{decode}
 use Rattle.model.proofs.PlanForm.{lent-length}
-use Rattle.rebuild_regions.proofs.Keeping.{Kept, kept-none, kept-off, kept-named, kept-more, kept-all}
+use Rattle.rebuild_regions.proofs.Keeping.{Picking, kept-none, kept-off, kept-named, kept-more, kept-all}
 use Rattle.rebuild_regions.proofs.keep_picks.Statement.{statement}
 use Rattle.rebuild_regions.proofs.keep_picks.Tie as tie
 
 abbrev Inv-loop : tie.InvT-loop
-Inv-loop plan v n picks kept₀ named₀ p₀ i₀ kept named p i = Kept (decode v plan) picks kept₀ kept named p i
+Inv-loop plan v n picks kept₀ named₀ p₀ i₀ kept named p i = Picking (decode v plan) picks kept₀ kept named p i
 
 abbrev μ-loop : tie.MeasureT-loop
 μ-loop plan v n picks kept₀ named₀ p₀ i₀ kept named p i = length picks - i

@@ -1,4 +1,3 @@
--- `rebuild_regions::regions_of` meets its contract. Assumes nothing.
 use Prim.Native.Nat.{_-_, _≤_}
 use native.Mathlib.Omega.{arith}
 use native.Mathlib.Nat.{div-le-self}
@@ -28,9 +27,11 @@ room c = let k = c .keep-picks in omega (arith, k .ensures .1, k .kept .1 .1 .1 
 returns : tie.Need-returns Inv-loop μ-loop
 returns c =
     let s = c .before .before .before .before .before .before .before in
-    let k = c .before .before .keep-picks in
-    written-none-kept (decode (s .args .v) (s .args .plan .now)) (s .args .picks .now) (k .last .1 .1 .1 .1 .0) (k .result) (k .ensures .0) (room (c .before .before))
-    (s .args .out .now) (c .if1 .taken)
+    let k = c .before .before .keep-picks in (
+      written-none-kept (decode (s .args .v) (s .args .plan .now)) (s .args .picks .now) (k .last .1 .1 .1 .1 .0) (k .result) (k .ensures .0) (room (c .before .before))
+          (s .args .out .now) (c .if1 .taken),
+      refl,
+    )
 
 sub-size : tie.Need-sub-size Inv-loop μ-loop
 sub-size c = omega arith

@@ -1,4 +1,3 @@
--- `rebuild_regions::vehicle_of` meets its contract. Assumes nothing.
 use mathlib.Core.Path.{sym, _∙_}
 use Rattle.model.specs.Plan.{decode}
 use Rattle.model.proofs.Locate.{vehicle-none}

@@ -1,4 +1,4 @@
--- `rebuild_survey::along` meets its contract: the stops up to i are passed.
+-- The stops up to i are passed.
 use Prim.Native.Nat.{_-_, _<_}
 use native.Mathlib.Omega.{arith}
 use mathlib.Core.Path.{refl}

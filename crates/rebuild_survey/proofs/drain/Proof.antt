@@ -1,14 +1,14 @@
--- `rebuild_survey::drain` meets its contract: the stops of the regions before q are in the set.
-use Prim.Native.Nat.{_+_, _-_, _*_, _≤_}
+-- The stops of the regions before q are in the set.
+use Prim.Native.Nat.{_-_, _≤_}
 use mathlib.Core.Path.{ap}
 use native.Mathlib.Omega.{arith}
 use lib.ListN.{length, take}
 use Rattle.model.specs.Plan.{decode}
-use Rattle.model.specs.Region.{drained}
-use Rattle.rebuild_words.specs.Gaps.{regionsOf, regionAt}
+use Rattle.model.specs.Region.{drained, regionAt}
+use Rattle.rebuild_words.specs.Gaps.{regionsOf}
 use Rattle.rebuild_survey.specs.Sets.{Gathers}
 use Rattle.rebuild_survey.proofs.Sets.{turn-alone, turn-gathered, regions-gathered}
-use Rattle.rebuild_survey.proofs.Surveys.{turn}
+use Rattle.rebuild_survey.proofs.Surveys.{Turn, turn, turn-read}
 use Rattle.rebuild_survey.proofs.drain.Statement.{statement}
 use Rattle.rebuild_survey.proofs.drain.Tie as tie
 
@@ -24,148 +24,57 @@ loop-holds c = (omega arith, λ x. omega arith)
 mul-loop : tie.Need-mul-loop Inv-loop μ-loop
 mul-loop c = omega (arith, c .loop .inv .0, c .before .before .before .pre .few)
 
-mul-k : tie.Need-mul-k Inv-loop μ-loop
-mul-k c =
+region-at-requires : tie.Need-region-at-requires Inv-loop μ-loop
+region-at-requires c κs =
     let s = c .before .before .before .before in
-    let l = c .before .loop in
-    let u = turn (s .args .v) (s .args .n) (s .args .plan .now) (s .args .regions .now) (s .pre) (l .q) (c .loop-test .taken) in
-    omega (arith, u .few)
+    turn-read (s .args .v) (s .args .n) (s .args .plan .now) (s .args .regions .now) (s .pre) (c .before .loop .q) (c .loop-test .taken)
 
-mul-k-2 : tie.Need-mul-k-2 Inv-loop μ-loop
-mul-k-2 c =
-    let s = c .before .before .before .before in
-    let l = c .before .loop in
-    let u = turn (s .args .v) (s .args .n) (s .args .plan .now) (s .args .regions .now) (s .pre) (l .q) (c .loop-test .taken) in
-    omega (arith, u .few)
+-- the region of a turn
+module _ (c : tie.After-region-at Inv-loop μ-loop) where
+  abbrev start : tie.Start Inv-loop μ-loop
+  start = c .before .before .before .before .before
 
-shared-slice-read-k : tie.Need-shared-slice-read-k Inv-loop μ-loop
-shared-slice-read-k c = omega (arith, c .before .loop-test .taken)
-
-cast-k : tie.Need-cast-k Inv-loop μ-loop
-cast-k c = omega (arith, c .shared-slice-known3 .given (3 * c .before .before .loop .q))
-
-mul-from : tie.Need-mul-from Inv-loop μ-loop
-mul-from c =
-    let s = c .before .before .before .before .before in
-    let l = c .before .before .loop in
-    let u = turn (s .args .v) (s .args .n) (s .args .plan .now) (s .args .regions .now) (s .pre) (l .q) (c .before .loop-test .taken) in
-    omega (arith, u .few)
-
-add-from : tie.Need-add-from Inv-loop μ-loop
-add-from c =
-    let s = c .before .before .before .before .before in
-    let l = c .before .before .loop in
-    let u = turn (s .args .v) (s .args .n) (s .args .plan .now) (s .args .regions .now) (s .pre) (l .q) (c .before .loop-test .taken) in
-    omega (arith, u .few)
-
-mul-from-2 : tie.Need-mul-from-2 Inv-loop μ-loop
-mul-from-2 c =
-    let s = c .before .before .before .before .before in
-    let l = c .before .before .loop in
-    let u = turn (s .args .v) (s .args .n) (s .args .plan .now) (s .args .regions .now) (s .pre) (l .q) (c .before .loop-test .taken) in
-    omega (arith, u .few)
-
-shared-slice-read-from : tie.Need-shared-slice-read-from Inv-loop μ-loop
-shared-slice-read-from c =
-    let s = c .before .before .before .before .before .before in
-    let l = c .before .before .before .loop in
-    let u = turn (s .args .v) (s .args .n) (s .args .plan .now) (s .args .regions .now) (s .pre) (l .q) (c .before .before .loop-test .taken) in
-    omega (arith, s .pre .threes, u .inside)
-
-cast-from : tie.Need-cast-from Inv-loop μ-loop
-cast-from c = omega (arith, c .shared-slice-known4 .given (3 * c .before .before .before .loop .q + 1))
-
-mul-to : tie.Need-mul-to Inv-loop μ-loop
-mul-to c =
-    let s = c .before .before .before .before .before .before in
-    let l = c .before .before .before .loop in
-    let u = turn (s .args .v) (s .args .n) (s .args .plan .now) (s .args .regions .now) (s .pre) (l .q) (c .before .before .loop-test .taken) in
-    omega (arith, u .few)
-
-add-to : tie.Need-add-to Inv-loop μ-loop
-add-to c =
-    let s = c .before .before .before .before .before .before in
-    let l = c .before .before .before .loop in
-    let u = turn (s .args .v) (s .args .n) (s .args .plan .now) (s .args .regions .now) (s .pre) (l .q) (c .before .before .loop-test .taken) in
-    omega (arith, u .few)
-
-mul-to-2 : tie.Need-mul-to-2 Inv-loop μ-loop
-mul-to-2 c =
-    let s = c .before .before .before .before .before .before in
-    let l = c .before .before .before .loop in
-    let u = turn (s .args .v) (s .args .n) (s .args .plan .now) (s .args .regions .now) (s .pre) (l .q) (c .before .before .loop-test .taken) in
-    omega (arith, u .few)
-
-shared-slice-read-to : tie.Need-shared-slice-read-to Inv-loop μ-loop
-shared-slice-read-to c =
-    let s = c .before .before .before .before .before .before .before in
-    let l = c .before .before .before .before .loop in
-    let u = turn (s .args .v) (s .args .n) (s .args .plan .now) (s .args .regions .now) (s .pre) (l .q) (c .before .before .before .loop-test .taken) in
-    omega (arith, s .pre .threes, u .inside)
-
-cast-to : tie.Need-cast-to Inv-loop μ-loop
-cast-to c = omega (arith, c .shared-slice-known5 .given (3 * c .before .before .before .before .loop .q + 2))
+  here : let a = start .args in Turn (a .v) (a .n) (a .plan .now) (a .regions .now) (c .before .before .loop .q) (c .region-at .result)
+  here =
+      let a = start .args in
+      turn (a .v) (a .n) (a .plan .now) (a .regions .now) (start .pre) (c .before .before .loop .q) (c .before .loop-test .taken) (c .region-at .result) (c .region-at .ensures)
 
 route-requires : tie.Need-route-requires Inv-loop μ-loop
-route-requires c κs =
-    let s = c .before .before .before .before .before .before .before in
-    let l = c .before .before .before .before .loop in
-    let u = turn (s .args .v) (s .args .n) (s .args .plan .now) (s .args .regions .now) (s .pre) (l .q) (c .before .before .before .loop-test .taken) in
-    (s .pre .sizes, (s .pre .plan, u .known))
+route-requires c κs = (start c .pre .sizes, (start c .pre .plan, here c .known))
 
 mul-gather : tie.Need-mul-gather Inv-loop μ-loop
-mul-gather c =
-    let s = c .before .before .before .before .before .before .before .before in
-    let l = c .before .before .before .before .before .loop in
-    let u = turn (s .args .v) (s .args .n) (s .args .plan .now) (s .args .regions .now) (s .pre) (l .q) (c .before .before .before .before .loop-test .taken) in
-    omega (arith, u .ordered, u .within, u .drivable .few)
+mul-gather c = let u = here (c .before) in omega (arith, u .ordered, u .within, u .drivable .few)
 
 sub-gather : tie.Need-sub-gather Inv-loop μ-loop
-sub-gather c =
-    let s = c .before .before .before .before .before .before .before .before in
-    let l = c .before .before .before .before .before .loop in
-    let u = turn (s .args .v) (s .args .n) (s .args .plan .now) (s .args .regions .now) (s .pre) (l .q) (c .before .before .before .before .loop-test .taken) in
-    u .ordered
+sub-gather c = here (c .before) .ordered
 
 part-gather-start : tie.Need-part-gather-start Inv-loop μ-loop
-part-gather-start c =
-    let s = c .before .before .before .before .before .before .before .before in
-    let l = c .before .before .before .before .before .loop in
-    let u = turn (s .args .v) (s .args .n) (s .args .plan .now) (s .args .regions .now) (s .pre) (l .q) (c .before .before .before .before .loop-test .taken) in
-    u .ordered
+part-gather-start c = here (c .before) .ordered
 
 part-gather-end : tie.Need-part-gather-end Inv-loop μ-loop
-part-gather-end c =
-    let s = c .before .before .before .before .before .before .before .before in
-    let l = c .before .before .before .before .before .loop in
-    let u = turn (s .args .v) (s .args .n) (s .args .plan .now) (s .args .regions .now) (s .pre) (l .q) (c .before .before .before .before .loop-test .taken) in
-    omega (arith, u .within, ap length (c .route .ensures))
+part-gather-end c = omega (arith, here (c .before) .within, ap length (c .route .ensures))
 
 gather-requires : tie.Need-gather-requires Inv-loop μ-loop
 gather-requires c κs =
-    let s = c .before .before .before .before .before .before .before .before .before in
-    let l = c .before .before .before .before .before .before .loop in
-    let u = turn (s .args .v) (s .args .n) (s .args .plan .now) (s .args .regions .now) (s .pre) (l .q) (c .before .before .before .before .before .loop-test .taken) in
-    let r = c .before .route in
-    turn-alone (s .args .v) (s .args .n) (s .args .plan .now) (s .args .regions .now) (s .pre) (l .q) (l .set) (u .inside) (l .inv .1) _ (r .ensures)
+    let b = c .before .before in
+    let a = start b .args in
+    let l = b .before .before .loop in
+    turn-alone (a .v) (a .n) (a .plan .now) (a .regions .now) (start b .pre) (l .q) (l .set) (here b .inside) (l .inv .1) (b .region-at .result) (b .region-at .ensures) _ (c .before .route .ensures)
 
 add-q : tie.Need-add-q Inv-loop μ-loop
-add-q c =
-    let s = c .before .before .before .before .before .before .before .before .before .before in
-    let l = c .before .before .before .before .before .before .before .loop in
-    let u = turn (s .args .v) (s .args .n) (s .args .plan .now) (s .args .regions .now) (s .pre) (l .q) (c .before .before .before .before .before .before .loop-test .taken) in
-    omega (arith, u .few)
+add-q c = omega (arith, here (c .before .before .before) .few)
 
 loop-less : tie.Need-loop-less Inv-loop μ-loop
-loop-less c = omega (arith, c .before .before .before .before .before .before .loop-test .taken)
+loop-less c = omega (arith, c .before .before .before .before .loop-test .taken)
 
 loop-again : tie.Need-loop-again Inv-loop μ-loop
 loop-again c =
-    let s = c .before .before .before .before .before .before .before .before .before .before in
-    let l = c .before .before .before .before .before .before .before .loop in
-    let u = turn (s .args .v) (s .args .n) (s .args .plan .now) (s .args .regions .now) (s .pre) (l .q) (c .before .before .before .before .before .before .loop-test .taken) in
-    let r = c .before .before .route in
-    (omega (arith, u .inside), turn-gathered (s .args .v) (s .args .n) (s .args .plan .now) (s .args .regions .now) (s .pre) (l .q) (l .set) (u .inside) (l .inv .1) _ (r .ensures) (c .gather .result) (c .gather .ensures))
+    let b = c .before .before .before in
+    let a = start b .args in
+    let l = b .before .before .loop in (
+      omega (arith, here b .inside),
+      turn-gathered (a .v) (a .n) (a .plan .now) (a .regions .now) (start b .pre) (l .q) (l .set) (here b .inside) (l .inv .1) (b .region-at .result) (b .region-at .ensures) _ (c .before .before .route .ensures) (c .gather .result) (c .gather .ensures),
+    )
 
 returns : tie.Need-returns Inv-loop μ-loop
 returns c =
@@ -182,20 +91,7 @@ drain-spec =
     μ-loop
     loop-holds
     mul-loop
-    mul-k
-    mul-k-2
-    shared-slice-read-k
-    cast-k
-    mul-from
-    add-from
-    mul-from-2
-    shared-slice-read-from
-    cast-from
-    mul-to
-    add-to
-    mul-to-2
-    shared-slice-read-to
-    cast-to
+    region-at-requires
     route-requires
     mul-gather
     sub-gather

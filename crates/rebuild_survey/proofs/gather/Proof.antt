@@ -1,4 +1,4 @@
--- `rebuild_survey::gather` meets its contract: the stops up to i are put in.
+-- The stops up to i are put in.
 use Prim.Native.Nat.{_-_, _≤_}
 use native.Mathlib.Omega.{arith}
 use lib.ListN.{length}

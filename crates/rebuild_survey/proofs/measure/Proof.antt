@@ -1,4 +1,3 @@
--- `rebuild_survey::measure` meets its contract.
 use Prim.Native.Nat.{ℕ, _+_, _-_, _<_}
 use native.Mathlib.Omega.{arith}
 use mathlib.Core.Path.{refl, sym}

@@ -1,4 +1,3 @@
--- `rebuild_survey::store` meets its contract.
 use native.Mathlib.Omega.{arith}
 use lib.ListN.{length-set}
 use Rattle.rebuild_survey.proofs.Surveys.{stored}

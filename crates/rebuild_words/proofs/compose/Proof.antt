@@ -1,4 +1,4 @@
--- `rebuild_words::compose` meets its contract: the routes up to i are written, and end at `at`; route i of the plan begins at `start`.
+-- The routes up to i are written, and end at `at`; route i of the plan begins at `start`.
 use Prim.Native.Nat.{_+_, _-_}
 use mathlib.Core.Path.{_≡_, refl, ap}
 use native.Mathlib.Omega.{arith}

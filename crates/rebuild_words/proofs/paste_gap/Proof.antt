@@ -1,4 +1,4 @@
--- `rebuild_words::paste_gap` meets its contract: the placements up to i are passed, and those of the gap written.
+-- The placements up to i are passed, and those of the gap written.
 use Prim.Native.Nat.{_-_, _<_}
 use mathlib.Core.Logic.{⊎-elim}
 use lib.ListN.{length}

@@ -1,11 +1,11 @@
--- `rebuild_words::region_of` meets its contract: the regions up to r are of other vehicles.
+-- The regions up to r are of other vehicles.
 use Prim.Native.Nat.{ℕ, _+_, _-_, _*_, _≤_, _<_}
 use mathlib.Core.List.{List}
 use mathlib.Core.Path.{_≡_, sym, _∙_}
 use lib.ListN.{length, getD, drop}
 use native.Mathlib.Omega.{arith}
 use Rattle.model.specs.Lists.{position}
-use Rattle.model.proofs.Arrangements.{vehiclesOf}
+use Rattle.model.specs.Region.{vehiclesOf}
 use Rattle.solution.proofs.Walks.{position-here, position-more, position-end}
 use Rattle.rebuild_words.specs.Gaps.{regionsOf}
 use Rattle.rebuild_words.proofs.Gaps.{vehicle-at, length-vehicles}

@@ -8,15 +8,14 @@ use mathlib.Core.List.{List, [], _∷_}
 use lib.Dec.{ltb, leb}
 use lib.ListN.{length, getD, replicate}
 use borrow.Author.Tests.{ltb-true, leb-true}
-use Rattle.model.specs.Lists.{allOnce}
+use Rattle.model.specs.Lists.{In, allOnce}
 use Rattle.model.specs.Plan.{Plan, routeOf, decode, isPlan}
-use Rattle.model.specs.Region.{Region}
+use Rattle.model.specs.declared.Region.{Region}
+use Rattle.model.specs.Region.{vehiclesOf, Stretch}
 use Rattle.model.specs.Legs.{LegTable}
 use Rattle.model.proofs.Counts.{allOnce-once}
 use Rattle.model.proofs.PlanForm.{isPlan-lent}
-use Rattle.model.proofs.Members.{In, once-distinct}
-use Rattle.model.proofs.Regions.{Stretch}
-use Rattle.model.proofs.Arrangements.{vehiclesOf}
+use Rattle.model.proofs.Members.{once-distinct}
 use Rattle.model.specs.Rebuild.{fillings}
 use Rattle.rebuild_words.specs.Words.{arrangementCount}
 use Rattle.rebuild_words.proofs.Visits.{count-fillings}

@@ -1,5 +1,7 @@
-// Prints the numbers of arrangements that the walk counts: of 7 stops in one gap, of 6 in two gaps, and of 6 on three vehicles.
+// 01's marked sums, through the code. Prints the numbers of arrangements that the walk counts: of 7 stops in one gap, of 6 in two gaps, and
+// of 6 on three vehicles. The row for a pair on one route, 0 1 2 3 4 with stops 0 and 4, is checked.
 ghost use mathlib.Core.Path.{_≡_};
+ghost use mathlib.Core.List.{[], _∷_};
 ghost use Prim.Native.Nat.{_≤_};
 ghost use lib.ListN.{length};
 ghost use Rattle.model.specs.Plan.{decode};
@@ -26,6 +28,35 @@ fn count(v: usize, n: usize, plan: &[u32], regions: &[u32]) -> u64
     found.count
 }
 
+// The first candidate of the pair.
+fn first() -> [u32; 5]
+    ensures { λ r. ⌜ r ≡ 4 ∷ 1 ∷ 2 ∷ 3 ∷ 0 ∷ [] ⌝ }
+{
+    let route = [0u32, 1, 2, 3, 4];
+    let mut out = [0u32; 5];
+    two_opt_inversions::ends_exchanged(&route, 0, 4, &mut out);
+    out
+}
+
+// The second.
+fn second() -> [u32; 5]
+    ensures { λ r. ⌜ r ≡ 0 ∷ 3 ∷ 2 ∷ 1 ∷ 4 ∷ [] ⌝ }
+{
+    let route = [0u32, 1, 2, 3, 4];
+    let mut out = [0u32; 5];
+    two_opt_inversions::inverted(&route, 0, 4, &mut out);
+    out
+}
+
+fn check_rows() {
+    let a = first();
+    let b = second();
+    check::expect(a[0] == 4);
+    check::expect(a[4] == 0);
+    check::expect(b[1] == 3);
+    check::expect(b[3] == 1);
+}
+
 fn main() {
     io::print_decimal(
         STDOUT_FILENO,
@@ -47,4 +78,5 @@ fn main() {
         ),
     );
     io::write_all(STDOUT_FILENO, b"\n");
+    check_rows();
 }

@@ -1,4 +1,4 @@
--- `intra_rows::main` meets its contract: what stands in the arrays is what `first` and `second` ensure. Assumes nothing.
+-- What stands in the arrays is what `first` and `second` ensure.
 use mathlib.Core.Path.{_≡_, refl, ap, _∙_}
 use mathlib.Core.Bool.{true}
 use mathlib.Core.List.{List}
@@ -7,8 +7,8 @@ use lib.Dec.{eqb}
 use lib.ListN.{getD}
 use borrow.Author.Tests.{eq-eqb}
 use borrow.Author.Needs.{needs}
-use Rattle.intra_rows.proofs.main.Statement.{statement}
-use Rattle.intra_rows.proofs.main.Tie as tie
+use Rattle.marked_sums.proofs.check_rows.Statement.{statement}
+use Rattle.marked_sums.proofs.check_rows.Tie as tie
 
 -- what stands at place i of a list that is known
 stands : (xs ys : List ℕ) (i x : ℕ) → xs ≡ ys → getD ys i 0 ≡ x → eqb (getD xs i 0) x ≡ true
@@ -47,8 +47,8 @@ expect-requires-4 c κs = stands (c .before .before .before .second .result) _ 3
 returns : tie.Need-returns
 returns c = search needs
 
-pub main-spec : {M : Type 1} → statement M
-main-spec =
+pub check-rows-spec : {M : Type 1} → statement M
+check-rows-spec =
     tie.close
     (tie.spec
     first-requires

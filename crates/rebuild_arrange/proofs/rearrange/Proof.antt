@@ -1,14 +1,13 @@
--- `rebuild::rearrange` meets its contract. Assumes nothing.
 use Prim.Native.Nat.{ℕ, _+_, _≤_}
 use native.Mathlib.Omega.{arith}
 use mathlib.Core.Path.{_≡_, sym, ap, subst, _∙_}
 use mathlib.Core.List.{List, _++_}
 use lib.ListN.{length, take, drop, replicate, length-append, length-drop}
 use lib.Seq.{length-take-le, take-at}
 use Rattle.rebuild_arrange.specs.Arranged.{Arranged}
 use borrow.Author.Needs.{needs}
-use Rattle.rebuild.proofs.rearrange.Statement.{statement}
-use Rattle.rebuild.proofs.rearrange.Tie as tie
+use Rattle.rebuild_arrange.proofs.rearrange.Statement.{statement}
+use Rattle.rebuild_arrange.proofs.rearrange.Tie as tie
 
 abbrev zeros : List ℕ
 zeros = replicate 80 0

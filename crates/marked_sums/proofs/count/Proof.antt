@@ -1,4 +1,3 @@
--- `counts::count` meets its contract.
 use Prim.Native.Nat.{_+_}
 use mathlib.Core.Path.{sym}
 use native.Mathlib.Omega.{arith}
@@ -7,31 +6,26 @@ use lib.Seq.{length-take-le}
 use Rattle.model.specs.Plan.{decode}
 use Rattle.model.specs.Region.{drained}
 use Rattle.rebuild_words.specs.Gaps.{regionsOf}
-use Rattle.counts.proofs.Plans.{no-legs, counted}
+use Rattle.marked_sums.proofs.Plans.{no-legs, counted}
 use borrow.Author.Needs.{needs}
-use Rattle.counts.proofs.count.Statement.{statement}
-use Rattle.counts.proofs.count.Tie as tie
+use Rattle.marked_sums.proofs.count.Statement.{statement}
+use Rattle.marked_sums.proofs.count.Tie as tie
 
--- src/main.rt:24:13
 add-m : tie.Need-add-m
 add-m c = search needs
 
--- src/main.rt:25:34
 slice-aggregate-arrange : tie.Need-slice-aggregate-arrange
 slice-aggregate-arrange c = search needs
 
--- src/main.rt:25:70
 array-borrow-prefix-best : tie.Need-array-borrow-prefix-best
 array-borrow-prefix-best c = let z = c .before .before .before .pre .0 .sizes in omega (arith, z .vehicles, z .stops)
 
--- src/main.rt:25:70
 slice-aggregate-arrange-2 : tie.Need-slice-aggregate-arrange-2
 slice-aggregate-arrange-2 c =
     let s = c .before .before .before .before in
     let z = s .pre .0 .sizes in
     sym (length-take-le (s .args .v + s .args .n) (replicate 80 0) (omega (arith, z .vehicles, z .stops)))
 
--- src/main.rt:25:9
 arrange-requires : tie.Need-arrange-requires
 arrange-requires c κs =
     let s = c .before .before .before .before in
@@ -45,7 +39,6 @@ arrange-requires c κs =
       length-take-le (s .args .v + s .args .n) (replicate 80 0) (omega (arith, z .vehicles, z .stops)),
     )
 
--- src/main.rt:13:1
 returns : tie.Need-returns
 returns c =
     let s = c .before .before .before .before .before .before in

@@ -1,88 +1,72 @@
--- `counts::main` meets its contract: each plan and its regions pass the tests.
+-- Each plan and its regions pass the tests.
 use mathlib.Core.Path.{refl}
 use native.Mathlib.Omega.{arith}
 use Rattle.model.specs.Plan.{decode, isPlan}
-use Rattle.counts.proofs.Plans.{gapped}
+use Rattle.marked_sums.proofs.Plans.{gapped}
 use borrow.Author.Needs.{needs}
-use Rattle.counts.proofs.main.Statement.{statement}
-use Rattle.counts.proofs.main.Tie as tie
+use Rattle.marked_sums.proofs.main.Statement.{statement}
+use Rattle.marked_sums.proofs.main.Tie as tie
 
--- src/main.rt:32:21
 slice-aggregate-count : tie.Need-slice-aggregate-count
 slice-aggregate-count c = search needs
 
--- src/main.rt:32:48
 slice-aggregate-count-2 : tie.Need-slice-aggregate-count-2
 slice-aggregate-count-2 c = search needs
 
--- src/main.rt:32:9
 count-requires : tie.Need-count-requires
 unfolding decode isPlan
 count-requires c κs = (gapped 1 7 _ _ (omega arith) (omega arith) refl refl refl (omega arith) refl refl, omega arith)
 
--- src/main.rt:30:5
 print-decimal-requires : tie.Need-print-decimal-requires
 print-decimal-requires c κs = search needs
 
--- src/main.rt:34:34
 slice-aggregate-write-all : tie.Need-slice-aggregate-write-all
 slice-aggregate-write-all c = search needs
 
--- src/main.rt:34:5
 write-all-requires : tie.Need-write-all-requires
 write-all-requires c κs = search needs
 
--- src/main.rt:37:21
 slice-aggregate-count-3 : tie.Need-slice-aggregate-count-3
 slice-aggregate-count-3 c = search needs
 
--- src/main.rt:37:48
 slice-aggregate-count-4 : tie.Need-slice-aggregate-count-4
 slice-aggregate-count-4 c = search needs
 
--- src/main.rt:37:9
 count-requires-2 : tie.Need-count-requires-2
 unfolding decode isPlan
 count-requires-2 c κs = (gapped 2 6 _ _ (omega arith) (omega arith) refl refl refl (omega arith) refl refl, omega arith)
 
--- src/main.rt:35:5
 print-decimal-requires-2 : tie.Need-print-decimal-requires-2
 print-decimal-requires-2 c κs = search needs
 
--- src/main.rt:39:34
 slice-aggregate-write-all-2 : tie.Need-slice-aggregate-write-all-2
 slice-aggregate-write-all-2 c = search needs
 
--- src/main.rt:39:5
 write-all-requires-2 : tie.Need-write-all-requires-2
 write-all-requires-2 c κs = search needs
 
--- src/main.rt:45:13
 slice-aggregate-count-5 : tie.Need-slice-aggregate-count-5
 slice-aggregate-count-5 c = search needs
 
--- src/main.rt:46:13
 slice-aggregate-count-6 : tie.Need-slice-aggregate-count-6
 slice-aggregate-count-6 c = search needs
 
--- src/main.rt:42:9
 count-requires-3 : tie.Need-count-requires-3
 unfolding decode isPlan
 count-requires-3 c κs = (gapped 3 6 _ _ (omega arith) (omega arith) refl refl refl (omega arith) refl refl, omega arith)
 
--- src/main.rt:40:5
 print-decimal-requires-3 : tie.Need-print-decimal-requires-3
 print-decimal-requires-3 c κs = search needs
 
--- src/main.rt:49:34
 slice-aggregate-write-all-3 : tie.Need-slice-aggregate-write-all-3
 slice-aggregate-write-all-3 c = search needs
 
--- src/main.rt:49:5
 write-all-requires-3 : tie.Need-write-all-requires-3
 write-all-requires-3 c κs = search needs
 
--- src/main.rt:29:1
+check-rows-requires : tie.Need-check-rows-requires
+check-rows-requires c κs = search needs
+
 returns : tie.Need-returns
 returns c = search needs
 
@@ -108,4 +92,5 @@ main-spec =
     print-decimal-requires-3
     slice-aggregate-write-all-3
     write-all-requires-3
+    check-rows-requires
     returns)
