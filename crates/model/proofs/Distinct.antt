@@ -4,13 +4,13 @@ use native.Mathlib.Omega.{arith}
 use mathlib.Core.Path.{_≡_, refl, sym, ap, ap₂, _∙_}
 use mathlib.Core.List.{List, [], _∷_, _++_}
 use lib.ListN.{length, take, drop, length-append}
-use Rattle.model.specs.Lists.{concat, change, Once}
+use Rattle.model.specs.Lists.{Distinct, concat, change, Once}
 use Rattle.model.specs.Plan.{Plan, Route, routeOf}
-use Rattle.model.specs.Region.{Region, regions, drained}
+use Rattle.model.specs.Region.{Region, Stretches, regions, drained}
 use Rattle.model.specs.Rebuild.{fillings, replaced, arrangements}
 use Rattle.model.proofs.Lists.{getD-change, change-change, change-none}
-use Rattle.model.proofs.Members.{Distinct, distinct-map}
-use Rattle.model.proofs.Regions.{Stretches, first-stretch, later-stretches, regions-stretches}
+use Rattle.model.proofs.Members.{distinct-map}
+use Rattle.model.proofs.Regions.{first-stretch, later-stretches, regions-stretches}
 use Rattle.model.proofs.Arrangements.{of-fillings, distinct-fillings, spliced, length-replaced, replaced-other, once-drained}
 
 -- what follows an equal beginning

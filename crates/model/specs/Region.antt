@@ -1,12 +1,11 @@
 -- 01, "One round", the region pass: which stretches of which routes are drained.
-use Prim.Native.Nat.{ℕ, zero, suc, _+_, _-_, _*_, _/_, _≤_, _<_, min}
-use mathlib.Core.Bool.{Bool, true, false, cond}
-use mathlib.Core.List.{List, [], _∷_, _++_, map}
-use lib.Dec.{eqb}
-use lib.ListN.{length, take, drop, getD}
-use Rattle.model.specs.Lists.{In, Distinct, part, position, member, change, concat}
+use Prim.Native.Nat.{ℕ, _+_, _-_, _*_, _/_, _≤_, _<_, min}
+use mathlib.Core.Bool.{cond}
+use mathlib.Core.List.{List, [], _∷_, map}
+use lib.ListN.{length, getD}
+use Rattle.model.specs.Lists.{In, Distinct, part, position, member, concat}
 pub use Rattle.model.specs.declared.Region.{Region}
-use Rattle.model.specs.Plan.{Plan, Route, routeOf, vehicleOf, isPlaced}
+use Rattle.model.specs.Plan.{Plan, routeOf, vehicleOf, isPlaced}
 
 -- the picks that are placed, and of those on one vehicle the first. `named` are the vehicles of earlier picks.
 abbrev pub keepPicks : Plan → List ℕ → List ℕ → List ℕ

@@ -6,13 +6,11 @@ use native.Mathlib.Nat.{mul-le-mul}
 use native.Mathlib.Omega.{arith}
 use lib.ListN.{length, take, drop, replicate, length-replicate, length-append, length-drop}
 use lib.Seq.{take-at}
-use Rattle.model.specs.declared.Prices.{Prices}
 use Rattle.model.specs.declared.Totals.{Totals}
 use Rattle.model.specs.declared.Solved.{Solved}
 use Rattle.model.specs.declared.Solved.the-variants as S
 use Rattle.model.specs.Job.{Job, vehicleCount, stopCount, jobOf}
 use Rattle.model.specs.Plan.{Plan, encode, decode, Lent, Sizes}
-use Rattle.model.specs.Nearest.{startPlan}
 use Rattle.model.specs.Run.{Task, taskFor}
 use Rattle.model.specs.Refusals.{Arguments, Solve, refusal, running}
 use Rattle.model.specs.Calls.{taskOf, finalState, totals, solved, solveAnswer, made, leftBy, planLeft, blank, runOf}
