@@ -8,10 +8,10 @@ use native.Mathlib.Decide.{decLt}
 use mathlib.Core.Path.{_≡_, refl, sym, ap, _∙_}
 use mathlib.Core.Logic.{_≢_, _⊎_, inl, inr}
 use mathlib.Core.Bool.{Bool, true, false, cond, _||_, true≢false, false≢true}
-use mathlib.Core.List.{List, [], _∷_, _++_, map, append-assoc, append-nil, reverse, reverse-cons}
+use mathlib.Core.List.{List, [], _∷_, _++_, map, append-assoc, append-nil, reverse, reverse-cons, reverse-append}
 use lib.Dec.{eqb, ltb, leb·suc-suc}
 use lib.ListN.{length, getD, take, drop, set, length-append, length-take, length-drop, length-reverse, take-append-drop, drop-of-length-le, List·getD-append}
-use lib.Seq.{take-add, take-all, take-length, split-at, getD-at}
+use lib.Seq.{take-add, take-all, take-at, drop-at, take-length, split-at, getD-at}
 use borrow.Author.Tests.{eqb-true, eqb-false, eq-eqb, ne-eqb, ltb-true, ltb-false, lt-ltb, le-ltb}
 use Rattle.model.specs.Lists.{sum, concat, change, part, upFrom, member, without, position, count, Once}
 
@@ -103,6 +103,17 @@ module _ {A : Type 0} where
       go ih (no k) =
           let e : length (x ∷ xs) - 1 - i ≡ 0 = omega arith in
           rw (reverse-cons, e) (getD-at (reverse xs) x [] d i (rw length-reverse (omega arith)))
+
+  -- the front of a list reversed is its end reversed
+  pub take-reverse : (k : ℕ) (xs : List A) → k ≤ length xs → take k (reverse xs) ≡ reverse (drop (length xs - k) xs)
+  take-reverse k xs h =
+      ap (λ (l : List A). take k (reverse l)) (sym (take-append-drop (length xs - k) xs))
+      ∙ rw (reverse-append) (take-at (reverse (drop (length xs - k) xs)) _ k (simp (length-reverse, length-drop) (omega arith)))
+
+  pub drop-reverse : (k : ℕ) (xs : List A) → k ≤ length xs → drop k (reverse xs) ≡ reverse (take (length xs - k) xs)
+  drop-reverse k xs h =
+      ap (λ (l : List A). drop k (reverse l)) (sym (take-append-drop (length xs - k) xs))
+      ∙ rw (reverse-append) (drop-at (reverse (drop (length xs - k) xs)) _ k (simp (length-reverse, length-drop) (omega arith)))
 
   -- ---- change
 
