@@ -4,14 +4,11 @@ use mathlib.Core.Bool.{true, false}
 use mathlib.Core.List.{List, _∷_}
 use Prim.Native.Nat.{ℕ}
 use lib.ListN.{replicate}
-use lib.Ieee.{Float, add, sub, mul, div, eq, le, ofInt}
-use Rattle.model.specs.declared.Averages.{Averages}
+use lib.Ieee.{add, sub, mul, div, eq, le, ofInt}
 use Rattle.model.specs.Whole.{whole}
 use Rattle.model.specs.Settle.{noAverages, averaged, settles}
 use Rattle.settle.specs.Costs.{improving, after, Goes}
-
-abbrev both : Float → Float → Averages
-both x y = record { delta = x; update = y }
+use Rattle.settle.specs.Rounds.{both}
 
 -- a gain of 4 counts in both averages, and an idle round only in δ
 improves : averaged 4 (both (whole 8) (whole 8)) 14 10 ≡ both (whole 7) (whole 7)

@@ -24,14 +24,14 @@ unfolding averaged
 averaged-moved c a m k = refl
 
 -- what an arm of the code returns, where `new < old` is as its test found it
-pub rounded : (c : ℕ) (a : Averages) (old new : Float) (b : Bool) → lt new old ≡ b → Rounded c a old new (moved c a (sub binary64 old new) b)
-rounded c a old new b t =
+pub rounded : (c : ℕ) (a : Averages) (old new : Float) (b : Bool) (r : Averages) → lt new old ≡ b → r ≡ moved c a (sub binary64 old new) b → Rounded c a old new r
+rounded c a old new b r t e =
     record {
-      floats = ap (moved c a (sub binary64 old new)) (sym t);
+      floats = e ∙ ap (moved c a (sub binary64 old new)) (sym t);
       numbers = λ m k M K p q.
-          sym
-          (averaged-moved c a m k
-          ∙ ap₂ (moved c a) (ap₂ (sub binary64) (sym p) (sym q)) (sym (lt-whole k m K M) ∙ ap₂ lt (sym q) (sym p) ∙ t));
+          e
+          ∙ ap₂ (moved c a) (ap₂ (sub binary64) p q) (sym t ∙ ap₂ lt q p ∙ lt-whole k m K M)
+          ∙ sym (averaged-moved c a m k);
     }
 
 -- the gain as a whole number

@@ -7,9 +7,12 @@ use Rattle.model.specs.declared.Averages.{Averages}
 use Rattle.model.specs.Whole.{whole, exact}
 use Rattle.model.specs.Settle.{average, averaged}
 
+abbrev pub both : Float → Float → Averages
+both x y = record { delta = x; update = y }
+
 -- both averages after a round whose gain is d: δ always, u where the round improves
 abbrev pub moved : ℕ → Averages → Float → Bool → Averages
-moved c a d improves = record { delta = average c (a .delta) d; update = cond improves (average c (a .update) d) (a .update) }
+moved c a d improves = both (average c (a .delta) d) (cond improves (average c (a .update) d) (a .update))
 
 -- r are the averages after a round that takes the cost from `old` to `new`
 pub record Rounded (c : ℕ) (a : Averages) (old new : Float) (r : Averages) : Type 0 where
