@@ -47,6 +47,8 @@ drainedFrom P g = part (g .from) (g .to) (routeOf P (g .vehicle))
 abbrev pub drained : Plan → List Region → List ℕ
 drained P gs = concat (map (drainedFrom P) gs)
 
+-- ---- which regions a plan has
+
 -- the vehicles of regions
 abbrev pub vehiclesOf : List Region → List ℕ
 vehiclesOf gs = map (λ (g : Region). g .vehicle) gs
