@@ -1,6 +1,6 @@
 // Two-opt of a pair of stops on one route.
 ghost use mathlib.Core.Path.{_≡_};
-ghost use Prim.Native.Nat.{_≤_, _<_};
+ghost use Prim.Native.Nat.{_<_};
 ghost use lib.ListN.{length};
 ghost use Rattle.model.specs.Job.{Job};
 ghost use Rattle.model.specs.Plan.{encode, decode, Lent};
