@@ -5,16 +5,20 @@ use mathlib.Core.List.{List, [], _∷_}
 use lib.Ieee.{Float}
 use Rattle.model.specs.Whole.{exact, whole}
 use Rattle.model.specs.Job.{Job}
-use Rattle.model.specs.Plan.{Plan, placed, Lent, Sizes}
+use Rattle.model.specs.Plan.{Plan, Route, placed, Lent, Sizes}
 use Rattle.model.specs.Legs.{depot, LegTable, Affordable, Fits}
 use Rattle.model.specs.Cost.{price, drivingCost, missedCost, cost}
 use Rattle.model.specs.declared.Prices.{Prices}
 use Rattle.distance.specs.Ways.{tableLegs}
 
+-- the route of vehicle k
+abbrev pub tablePrice : List ℕ → Prices → ℕ → Route → ℕ
+tablePrice t p k r = price p (tableLegs t (depot k) r (depot k))
+
 -- the routes of a plan, which are those of the vehicles from k on
 unfoldable pub tableDriving : List ℕ → Prices → ℕ → Plan → ℕ
 tableDriving t p k [] = 0
-tableDriving t p k (r ∷ P) = price p (tableLegs t (depot k) r (depot k)) + tableDriving t p (suc k) P
+tableDriving t p k (r ∷ P) = tablePrice t p k r + tableDriving t p (suc k) P
 
 -- the routes and the missed ones of n stops
 unfoldable pub tableCost : List ℕ → Prices → ℕ → Plan → ℕ

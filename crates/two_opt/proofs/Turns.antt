@@ -115,5 +115,5 @@ module _ (t : List ℕ) (v n : ℕ) (p : Prices) (xs near ys : List ℕ) where
   ten e J F x h = e J F ∙ rw h
 
   -- where there are no more
-  pub fewer : length near ≤ 10 → Leaves near → Passes
-  fewer few e = ten (λ J F. e J F ∙ ap (λ (l : List ℕ). encode n (twoOptAll J (decode v xs) (pairs l))) (sym (take-all 10 near few)))
+  pub fewer : length near ≤ 10 → Leaves near → Leaves (take 10 near)
+  fewer few e = rw (take-all 10 near few) e

@@ -1,7 +1,7 @@
 // Two-opt: a pair of stops, and the pass over all pairs of ten stops.
 ghost use mathlib.Core.Path.{_≡_};
 ghost use Prim.Native.Nat.{ℕ, _<_};
-ghost use lib.ListN.{length};
+ghost use lib.ListN.{length, take};
 ghost use Rattle.model.specs.Lists.{pairs, Once};
 ghost use Rattle.model.specs.Job.{Job};
 ghost use Rattle.model.specs.Plan.{encode, decode, Lent};
@@ -72,12 +72,13 @@ fn all_pairs(legs: &[u32], v: usize, n: usize, prices: Prices, plan: &mut [u32],
     }
 }
 
-// The two-opt pass round a stop x, of which S(x) is given: all pairs of its first ten.
+// The two-opt pass round a stop x, of which S(x) is given: all pairs of its first ten. Of any other list too it takes the pairs of the first ten.
 pub fn pass(legs: &[u32], v: usize, n: usize, prices: Prices, plan: &mut [u32], near: &[u32])
     requires { ⌜ Ready (now legs) v n prices (now plan) ⌝ }
     requires { ⌜ Once (now near) ⌝ }
     ensures { λ _. ⌜ ((J : Job) → Fits J (now (legs .entry)) v n prices → (x : ℕ) → now (near .entry) ≡ neighbours J x → now (plan .exit) ≡ encode n (twoOptPass J (decode v (now (plan .entry))) x)) ⌝ }
     ensures { λ _. ⌜ Lent v n (now (plan .exit)) ⌝ }
+    ensures { λ _. ⌜ ((J : Job) → Fits J (now (legs .entry)) v n prices → now (plan .exit) ≡ encode n (twoOptAll J (decode v (now (plan .entry))) (pairs (take 10 (now (near .entry)))))) ⌝ }
 {
     if 10 < near.len() {
         all_pairs(legs, v, n, prices, plan, &near[0..10]);

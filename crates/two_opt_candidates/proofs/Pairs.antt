@@ -20,7 +20,8 @@ use Rattle.model.proofs.Cost.{routeCost, cost-routes, cheaper-alike}
 use Rattle.model.proofs.Moves.{Moved, moved-routes, count-turned, count-exchanged}
 use Rattle.distance.specs.Ways.{Below}
 use Rattle.distance.proofs.Laws.{way-route}
-use Rattle.two_opt_candidates.specs.Pairs.{pairOf, candidate, planAt, wayPrice, least, priceAt, leastPair}
+use Rattle.delivery.specs.Costs.{tablePrice}
+use Rattle.two_opt_candidates.specs.Pairs.{pairOf, candidate, planAt, least, priceAt, leastPair}
 use Rattle.two_opt_candidates.proofs.Repeats.{inter-numbered}
 
 -- ---- the first of the cheapest
@@ -106,8 +107,7 @@ module _ (P : Plan) (a s b t : ℕ) (ha : a < length P) (hb : b < length P) (ne 
 -- ---- over a leg table that fits a job
 
 module _ (J : Job) (table : List ℕ) (v n : ℕ) (p : Prices) (F : Fits J table v n p) (S : Sizes v n) where
-  way-cost : (k : ℕ) (r : Route) → k < v → Below n r → wayPrice table p k r ≡ routeCost J k r
-  unfolding wayPrice
+  way-cost : (k : ℕ) (r : Route) → k < v → Below n r → tablePrice table p k r ≡ routeCost J k r
   way-cost k r h N = ap₂ price (sym (F .prices)) (way-route J table v n p F k r h N (λ s c. omega (arith, N s c, S .stops)))
 
   module _ (P : Plan) (a s b t : ℕ) (ha : a < v) (hb : b < v) (ne : a ≢ b) (e : length P ≡ v) (N : Below n (concat P)) where

@@ -20,7 +20,7 @@ use Rattle.two_opt_cuts.specs.declared.Cut.{Cut}
 use Rattle.two_opt_cuts.specs.declared.Cuts.{Cuts}
 use Rattle.two_opt_cuts.specs.Ends.{CutAt, CutBy, reversedCuts}
 use Rattle.two_opt_cuts.proofs.Laws.{cut-reversed, head-short, tail-short, joined-way}
-use Rattle.two_opt_candidates.specs.Pairs.{pairPrice, wayPrice, priceAt, least, leastPair}
+use Rattle.two_opt_candidates.specs.Pairs.{pairPrice, priceAt, least, leastPair}
 use Rattle.two_opt_candidates.specs.Weighed.{tried, cutsPrice, afterTurns, afterAll, Sized, TwoRoutes, Routes}
 use Rattle.two_opt_candidates.proofs.Pairs.{least-append}
 
@@ -132,7 +132,6 @@ module _ {t : List ℕ} {a b : ℕ} {r : Route} {s : ℕ} {c : Cuts} (C : CutBy 
 module _ (t : List ℕ) (p : Prices) (a b : ℕ) {ra : Route} {i : ℕ} {c : Cut} {rb : Route} {j : ℕ} {d : Cut} (C : CutAt t a b ra i c) (D : CutAt t a b rb j d) where
   -- two routes of known heads and tails
   cut-price : (heads tails : Bool) → cutsPrice t p heads tails c d ≡ pairPrice t p a b (exchanged heads tails ra i rb j)
-  unfolding wayPrice
   cut-price true true = ap₂ _+_ (ap (price p) (joined-way t a _ _ _ _ (C .head .0) (C .tail .0))) (ap (price p) (joined-way t b _ _ _ _ (D .head .1) (D .tail .1)))
   cut-price true false = ap₂ _+_ (ap (price p) (joined-way t a _ _ _ _ (C .head .0) (D .tail .0))) (ap (price p) (joined-way t b _ _ _ _ (D .head .1) (C .tail .1)))
   cut-price false true = ap₂ _+_ (ap (price p) (joined-way t a _ _ _ _ (D .head .0) (C .tail .0))) (ap (price p) (joined-way t b _ _ _ _ (C .head .1) (D .tail .1)))

@@ -9,11 +9,9 @@ use lib.Dec.{eqb, ltb}
 use Rattle.model.specs.declared.Prices.{Prices}
 use Rattle.model.specs.Lists.{position, upFrom}
 use Rattle.model.specs.Plan.{Plan, Route, routeOf}
-use Rattle.model.specs.Legs.{depot}
-use Rattle.model.specs.Cost.{price}
 use Rattle.model.specs.TwoOpt.{turned, exchanged, setRoute}
 use Rattle.two_opt_candidates.specs.declared.Choice.{Choice}
-use Rattle.distance.specs.Ways.{tableLegs}
+use Rattle.delivery.specs.Costs.{tablePrice}
 
 -- what the lower digits say of two rows in which the stops stand at i and j: the cuts, and whether heads and tails stay
 abbrev pub choiceOf : ℕ → ℕ → ℕ → Choice
@@ -40,13 +38,9 @@ planAt P a s b t code =
     let x = candidate (routeOf P a) s (routeOf P b) t code in
     setRoute b (x .1) (setRoute a (x .0) P)
 
--- what a vehicle's route costs, over the leg table
-unfoldable pub wayPrice : List ℕ → Prices → ℕ → Route → ℕ
-wayPrice table p k r = price p (tableLegs table (depot k) r (depot k))
-
 -- what two routes of vehicles a and b cost
 abbrev pub pairPrice : List ℕ → Prices → ℕ → ℕ → Route × Route → ℕ
-pairPrice table p a b x = wayPrice table p a (x .0) + wayPrice table p b (x .1)
+pairPrice table p a b x = tablePrice table p a (x .0) + tablePrice table p b (x .1)
 
 -- what a candidate costs that is made of two routes
 abbrev pub priceAt : List ℕ → Prices → ℕ → Route → ℕ → ℕ → Route → ℕ → ℕ → ℕ

@@ -130,9 +130,11 @@ fn write_candidate(
     write_turned(code / 32 % 2 == 1, ra, &mut xa);
     let mut xb = [0u32; 64];
     write_turned(code / 16 % 2 == 1, rb, &mut xb);
-    let i = solution::position(&xa[..m], s);
-    let j = solution::position(&xb[..k], t);
-    write_pair(old, plan, v, n, a, &xa[..m], i, b, &xb[..k], j, code);
+    let ta = &xa[..m];
+    let tb = &xb[..k];
+    let i = solution::position(ta, s);
+    let j = solution::position(tb, t);
+    write_pair(old, plan, v, n, a, ta, i, b, tb, j, code);
 }
 
 // The two-opt move of stop s on route a and stop t on route b of a plan: the kept candidate is written, unless it is the old plan.

@@ -27,8 +27,8 @@ use Rattle.distance.proofs.Laws.{way-route}
 use Rattle.delivery.proofs.Laws.{price-small}
 use Rattle.pasting.specs.Put.{put}
 use Rattle.pasting.proofs.Put.{put-all}
-use Rattle.delivery.specs.Costs.{Ready}
-use Rattle.two_opt_intra.specs.Reordered.{tablePrice, cheaper, reordered, Weighable, Weighs}
+use Rattle.delivery.specs.Costs.{tablePrice, Ready}
+use Rattle.two_opt_intra.specs.Reordered.{cheaper, reordered, Weighable, Weighs}
 
 -- r has the stops of w, in whatever order
 abbrev pub Alike : Route → Route → Type 0

@@ -9,15 +9,11 @@ use lib.Ieee.{Float}
 use Rattle.model.specs.Lists.{member}
 use Rattle.model.specs.Whole.{whole, exact}
 use Rattle.model.specs.Plan.{Route, routeOf, decode}
-use Rattle.model.specs.Legs.{depot, LegTable, Affordable}
-use Rattle.model.specs.Cost.{price}
+use Rattle.model.specs.Legs.{LegTable, Affordable}
 use Rattle.model.specs.TwoOpt.{endsExchanged, inverted}
 use Rattle.model.specs.declared.Prices.{Prices}
-use Rattle.distance.specs.Ways.{tableLegs, Drivable}
-
--- what a route costs on vehicle k
-abbrev pub tablePrice : List ℕ → Prices → ℕ → Route → ℕ
-tablePrice t p k r = price p (tableLegs t (depot k) r (depot k))
+use Rattle.distance.specs.Ways.{Drivable}
+use Rattle.delivery.specs.Costs.{tablePrice}
 
 -- the cheaper of two routes, the first where they cost the same
 abbrev pub cheaper : List ℕ → Prices → ℕ → Route → Route → Route

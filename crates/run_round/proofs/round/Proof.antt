@@ -79,7 +79,7 @@ rebuild-requires : tie.Need-rebuild-requires
 rebuild-requires c κs =
     let k = c .before .before .before .before in
     let p = passed k in
-    (ready (start (drew p) .pre .0) (p .pass .ensures .1), rw part-picks (omega (arith, k .pick .ensures .long, k .pick .ensures .atMost)))
+    (ready (start (drew p) .pre .0) (p .pass .ensures .1 .0), rw part-picks (omega (arith, k .pick .ensures .long, k .pick .ensures .atMost)))
 
 counted-requires : tie.Need-counted-requires
 counted-requires c κs =

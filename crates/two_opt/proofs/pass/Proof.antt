@@ -29,7 +29,7 @@ returns : tie.Need-returns
 returns c =
     let a = c .before .before .before .before .before .before .before .before .before .args in
     let e = c .before .before .all-pairs .ensures in
-    (ten (a .legs .now) (a .v) (a .n) (a .prices) (a .plan .now) (a .near .now) _ (e .0), e .1)
+    (ten (a .legs .now) (a .v) (a .n) (a .prices) (a .plan .now) (a .near .now) _ (e .0), (e .1, e .0))
 
 same-length-2 : tie.Need-same-length-2
 same-length-2 c = search needs
@@ -38,7 +38,8 @@ returns-2 : tie.Need-returns-2
 returns-2 c =
     let a = c .before .before .before .before .before .before .before .before .args in
     let e = c .before .before .all-pairs2 .ensures in
-    (fewer (a .legs .now) (a .v) (a .n) (a .prices) (a .plan .now) (a .near .now) _ (c .before .before .before .before .if1 .left) (e .0), e .1)
+    let l = fewer (a .legs .now) (a .v) (a .n) (a .prices) (a .plan .now) (a .near .now) _ (c .before .before .before .before .if1 .left) (e .0) in
+    (ten (a .legs .now) (a .v) (a .n) (a .prices) (a .plan .now) (a .near .now) _ l, (e .1, l))
 
 pub pass-spec : {M : Type 1} → statement M
 pass-spec =

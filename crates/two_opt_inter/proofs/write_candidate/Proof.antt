@@ -55,17 +55,17 @@ second-row c =
 array-share-prefix-xa : tie.Need-array-share-prefix-xa
 array-share-prefix-xa c = first-row (first (c .before)) .inside
 
-slice-aggregate-position : tie.Need-slice-aggregate-position
-slice-aggregate-position c = first-row (first (c .before .before)) .size
+slice-aggregate-ta : tie.Need-slice-aggregate-ta
+slice-aggregate-ta c = first-row (first (c .before .before)) .size
+
+array-share-prefix-xb : tie.Need-array-share-prefix-xb
+array-share-prefix-xb c = second-row (c .before .before) .inside
+
+slice-aggregate-tb : tie.Need-slice-aggregate-tb
+slice-aggregate-tb c = second-row (c .before .before .before) .size
 
 position-requires : tie.Need-position-requires
 position-requires c κs = search needs
-
-array-share-prefix-xb : tie.Need-array-share-prefix-xb
-array-share-prefix-xb c = second-row (c .before .before .before) .inside
-
-slice-aggregate-position-2 : tie.Need-slice-aggregate-position-2
-slice-aggregate-position-2 c = second-row (c .before .before .before .before) .size
 
 position-requires-2 : tie.Need-position-requires-2
 position-requires-2 c κs = search needs
@@ -73,28 +73,16 @@ position-requires-2 c κs = search needs
 abbrev rows : tie.After-position2 → tie.After-write-turned2
 rows c = c .before .before .before .before .before
 
-array-share-prefix-xa-2 : tie.Need-array-share-prefix-xa-2
-array-share-prefix-xa-2 c = first-row (first (rows (c .before))) .inside
-
-slice-aggregate-write-pair : tie.Need-slice-aggregate-write-pair
-slice-aggregate-write-pair c = first-row (first (rows (c .before .before))) .size
-
-array-share-prefix-xb-2 : tie.Need-array-share-prefix-xb-2
-array-share-prefix-xb-2 c = second-row (rows (c .before .before)) .inside
-
-slice-aggregate-write-pair-2 : tie.Need-slice-aggregate-write-pair-2
-slice-aggregate-write-pair-2 c = second-row (rows (c .before .before .before)) .size
-
 write-pair-requires : tie.Need-write-pair-requires
 write-pair-requires c κs =
-    let l = c .before .before .before in
+    let l = c .before in
     let y = rows l in
     let x = first y in
     let r = read x in
     let s = start r in (
       two-routes (s .pre .0),
       turned-rows (s .pre .0) (r .before .route .ensures) (r .route2 .ensures) (eqb (s .args .code / 32 % 2) 1) (eqb (s .args .code / 16 % 2) 1)
-          (first-row x .is) (second-row y .is) (l .before .before .position .ensures) (l .position2 .ensures),
+          (first-row x .is) (second-row y .is) (l .before .position .ensures) (l .position2 .ensures),
       s .pre .1,
     )
 
@@ -104,13 +92,13 @@ same-length c = search needs
 returns : tie.Need-returns
 returns c =
     let w = c .before .before in
-    let l = w .before .before .before .before in
+    let l = w .before .before in
     let y = rows l in
     let x = first y in
     let r = read x in
     let a = start r .args in
     turned-written (w .write-pair .last .1 .0) (a .n) (decode (a .v) (now (a .old))) (a .a) (a .s) (a .b) (a .t) (a .code)
-    (r .before .route .ensures) (r .route2 .ensures) (first-row x .is) (second-row y .is) (l .before .before .position .ensures) (l .position2 .ensures) (w .write-pair .ensures)
+    (r .before .route .ensures) (r .route2 .ensures) (first-row x .is) (second-row y .is) (l .before .position .ensures) (l .position2 .ensures) (w .write-pair .ensures)
 
 pub write-candidate-spec : {M : Type 1} → statement M
 write-candidate-spec =
@@ -123,15 +111,11 @@ write-candidate-spec =
     slice-aggregate-write-turned-2
     write-turned-requires-2
     array-share-prefix-xa
-    slice-aggregate-position
-    position-requires
+    slice-aggregate-ta
     array-share-prefix-xb
-    slice-aggregate-position-2
+    slice-aggregate-tb
+    position-requires
     position-requires-2
-    array-share-prefix-xa-2
-    slice-aggregate-write-pair
-    array-share-prefix-xb-2
-    slice-aggregate-write-pair-2
     write-pair-requires
     same-length
     returns)
