@@ -1,6 +1,6 @@
 // Numbers in columns: reading the fields of a job file, and writing what the program prints.
 ghost use mathlib.Core.Path.{_≡_};
-ghost use Prim.Native.Nat.{ℕ, _+_, _<_, _≤_, _^_};
+ghost use Prim.Native.Nat.{_<_, _^_};
 ghost use Rattle.file_columns.specs.Field.{Next, FieldAt, NumberAt, lastColumn};
 ghost use Rattle.file_columns.specs.Put.{written, Puttable};
 ghost use Rattle.model.specs.File.{columns};

@@ -1,14 +1,13 @@
 -- The first line: five numbers, M, and a line of two numbers.
-use mathlib.Core.Path.{_≡_, refl, sym}
+use mathlib.Core.Path.{_≡_, refl}
 use Prim.Native.Nat.{ℕ, zero, suc, _+_, _*_, _<_}
 use native.Mathlib.Nat.{add-zero}
 use native.Mathlib.Omega.{arith}
 use mathlib.Core.List.{List, [], _∷_, _++_, append-assoc}
 use lib.ListN.{length, getD}
-use lib.Seq.{ext-getD}
 use Rattle.model.specs.File.{columns, fields, line, NoneOver, Stands}
 use Rattle.model.proofs.Columns.{columns-length}
-use Rattle.model.proofs.Pieces.{join-at, part-at, none-over-nil, none-over-cons, fitting, fields-length, field-at}
+use Rattle.model.proofs.Pieces.{join-at, part-at, none-over-nil, none-over-cons, fitting, fields-length}
 use Rattle.file_columns.specs.declared.Field.{Field}
 use Rattle.file_columns.specs.declared.Field.the-variants.{Number, Bad}
 use Rattle.file_columns.specs.Field.{FieldAt, NumberAt}

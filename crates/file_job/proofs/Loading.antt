@@ -11,7 +11,6 @@ use Rattle.model.specs.File.{line, lines, firstNumbers, NoneOver, Stands, Accep
 use Rattle.model.proofs.Pieces.{stands-within, line-length}
 use Rattle.model.proofs.Tasks.{Placed, placed, first-fitting, draw-parts, stopsAt, distancesAt, countAt, drawsAt}
 use Rattle.file_job.specs.declared.Header.{Header}
-use Rattle.file_job.specs.declared.TaskRead.the-variants as R
 use Rattle.file_lines.specs.Standing.{Fillable, Filled, over}
 use Rattle.file_job.specs.Reading.{headerOf, Buffers, Room, Loadable, Loads}
 use Rattle.file_job.proofs.Checked.{table-bytes}

@@ -2,9 +2,6 @@
 // so that a refusal leaves the lists as they were.
 use file_columns::Field;
 use model::Prices;
-ghost use mathlib.Core.Path.{_≡_};
-ghost use Prim.Native.Nat.{ℕ, _+_, _*_, _≤_};
-ghost use lib.ListN.{length};
 ghost use Rattle.file_lines.specs.Standing.{Says};
 ghost use Rattle.file_job.specs.Reading.{FirstAt, TablesAt, DrawsAt, CheckedAt, buffers, Room, Loadable, Loads, ReadAt, ReadWhole};
 

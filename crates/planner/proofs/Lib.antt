@@ -1,2 +1,3 @@
 pub mod Pair
 pub mod Solving
+pub mod Ran

@@ -1,7 +1,7 @@
 -- Lines of numbers in 14 columns, and the line of a cost.
-use mathlib.Core.Path.{_≡_, refl, sym, _∙_, ap}
+use mathlib.Core.Path.{_≡_, sym, _∙_, ap}
 use mathlib.Core.List.{List, [], _∷_, _++_, append-nil}
-use Prim.Native.Nat.{ℕ, suc, _+_, _*_, _^_, _≤_, _<_}
+use Prim.Native.Nat.{ℕ, _+_, _*_, _≤_, _<_}
 use native.Mathlib.Nat.{zero-add}
 use native.Mathlib.Numerals.{add-one}
 use native.Mathlib.Omega.{arith}
@@ -11,7 +11,7 @@ use lib.Seq.{take-suc, take-all}
 use Rattle.model.specs.Whole.{amount}
 use Rattle.model.specs.File.{lineFeed, columns, fields, line, printedRefusal}
 use Rattle.model.proofs.Columns.{columns-length}
-use Rattle.model.proofs.Pieces.{Fitting, fitting-take, fields-length, fields-one, fields-append, line-length}
+use Rattle.model.proofs.Pieces.{Fitting, fitting-take, fields-length, fields-one, fields-append}
 use Rattle.file_columns.specs.Put.{written}
 use Rattle.file_columns.proofs.Puts.{written-nil}
 use Rattle.file_printing.specs.Printing.{Prints}
