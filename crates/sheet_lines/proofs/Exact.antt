@@ -1,5 +1,5 @@
 -- What an accepted call costs is an exact number.
-use mathlib.Core.Path.{_≡_, refl, sym, _∙_, ap}
+use mathlib.Core.Path.{_≡_, refl, sym, _∙_}
 use mathlib.Core.Bool.{Bool, true, false, cond}
 use mathlib.Core.List.{List, [], _∷_}
 use Prim.Native.Nat.{ℕ, zero, suc, _+_, _≤_}
@@ -10,7 +10,7 @@ use lib.ListN.{length, replicate, length-replicate}
 use Rattle.model.specs.declared.Weighed.{Weighed}
 use Rattle.model.specs.declared.Weighed.the-variants as W
 use Rattle.model.specs.Lists.{upFrom, member}
-use Rattle.model.specs.Whole.{whole, exact, IsWhole}
+use Rattle.model.specs.Whole.{whole, exact}
 use Rattle.model.specs.Job.{Job, vehicleCount, stopCount}
 use Rattle.model.specs.Plan.{Plan, Route, placed}
 use Rattle.model.specs.Cost.{cost}
