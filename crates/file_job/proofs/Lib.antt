@@ -3,3 +3,4 @@ pub mod Counted
 pub mod Checked
 pub mod Loading
 pub mod Answers
+pub mod Held

@@ -1,5 +1,5 @@
 -- The numbers of lines, written one after another to the front of a list.
-use mathlib.Core.Path.{_≡_, _∙_}
+use mathlib.Core.Path.{_≡_, refl, _∙_}
 use Prim.Native.Nat.{ℕ, suc, _+_, _*_, _/_, _≤_, _<_}
 use native.Mathlib.Nat.{mul-zero, mul-le-mul-left}
 use native.Mathlib.Numerals.{add-one}
@@ -8,12 +8,12 @@ use mathlib.Core.List.{List, _++_}
 use borrow.Author.Tests.{ltb-true, ltb-false}
 use lib.Dec.{ltb}
 use lib.ListN.{length, getD, take, drop, set}
-use lib.Seq.{take-all, take-suc, drop-cons, append-snoc, length-take-le, set-at}
+use lib.Seq.{take-all, take-at, take-suc, drop-cons, append-snoc, length-take-le, set-at}
 use Rattle.model.specs.File.{columns, lines, NoneOver, Stands}
 use Rattle.model.proofs.Columns.{tested, columns-length}
 use Rattle.model.proofs.Pieces.{stands-within, fitting, number-at}
 use Rattle.file_columns.specs.Field.{NumberAt}
-use Rattle.file_lines.specs.Standing.{LinesAt, Filled}
+use Rattle.file_lines.specs.Standing.{LinesAt, Filled, over}
 
 -- i numbers are written
 abbrev pub FilledTo : List ℕ → ℕ → ℕ → ℕ → List ℕ → List ℕ → ℕ → Type 0
@@ -42,3 +42,7 @@ module _ (bytes : List ℕ) (at m k : ℕ) where
 
   pub filled-all : (old new : List ℕ) (i : ℕ) → i ≡ m * k → FilledTo bytes at m k old new i → Filled bytes at m k old new
   filled-all old new i e f ns c o s = f ns c o s ∙ rw (e, take-all (m * k) ns (omega arith))
+
+-- a list laid over another is its front
+pub over-front : (xs ys : List ℕ) → take (length xs) (over xs ys) ≡ xs
+over-front xs ys = take-at xs (drop (length xs) ys) (length xs) refl

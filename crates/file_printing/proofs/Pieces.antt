@@ -6,7 +6,7 @@ use native.Mathlib.Numerals.{add-one}
 use native.Mathlib.Omega.{arith}
 use mathlib.Core.Bool.{Bool, true, false, cond}
 use mathlib.Core.List.{List, [], _∷_, _++_, append-assoc, append-nil}
-use lib.ListN.{length, set, length-append, length-take}
+use lib.ListN.{length, set, length-append, length-take, length-drop}
 use lib.Ieee as Ieee
 use lib.Ieee.{Float, nan, inf, fin}
 use Rattle.model.specs.declared.Totals.{Totals}
@@ -217,3 +217,8 @@ run-printed t v n xs old a b sizes room r i e g =
       count = sym (length-append (printedStops P n) (printedTotals t) ∙ ap (λ k. k + length (printedTotals t)) w ∙ ap (λ k. n * 9 + k) (totals-length t r i));
       same = after old a b 0 (n * 9) (printedStops P n) (printedTotals t) w (omega arith) e (rw zero-add g);
     }
+
+-- what is printed fits, since no byte is added
+pub prints-within : (old new : List ℕ) (r : ℕ) (text : List ℕ) → Prints old new r text → length new ≡ length old → r ≤ length old
+unfolding written
+prints-within old new r text p l = omega (arith, p .count, simp (length-append, length-drop) at (ap length (p .same)))

@@ -2,3 +2,4 @@ pub mod Pair
 pub mod Solving
 pub mod Exact
 pub mod Saying
+pub mod Ran

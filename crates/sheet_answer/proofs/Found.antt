@@ -4,7 +4,6 @@ use Prim.Native.Nat.{ℕ, _+_, _≤_}
 use native.Mathlib.Omega.{arith}
 use mathlib.Core.Bool.{Bool, true, false, cond}
 use mathlib.Core.List.{List, [], _++_}
-use lib.Dec.{eqb}
 use lib.ListN.{length, take, replicate, length-append}
 use Rattle.model.specs.Calls.{blank}
 use Rattle.model.specs.Job.{vehicleCount, stopCount}
@@ -16,19 +15,20 @@ use Rattle.file_job.specs.declared.TaskRead.{TaskRead}
 use Rattle.file_job.specs.declared.TaskRead.the-variants as T
 use Rattle.file_lines.specs.Standing.{over}
 use Rattle.file_job.specs.Reading.{Buffers, Room, ReadAt, Holds}
-use Rattle.shuttle_answers.proofs.Laws.{bounds, over-front, take-replicate, prints-within}
+use Rattle.file_lines.proofs.Fills.{over-front}
+use Rattle.file_job.proofs.Held.{loaded-held, bounds, take-replicate}
+use Rattle.file_printing.proofs.Pieces.{prints-within}
 use Rattle.file_printing.specs.Printing.{Prints}
-use Rattle.sheet_lines.specs.Printed.{longestPlan, mostPrinted}
+use Rattle.sheet_lines.specs.Printed.{mostForSheet}
 use Rattle.sheet_head.specs.declared.Head.{Head}
 use Rattle.sheet_head.specs.declared.HeadRead.{HeadRead}
 use Rattle.sheet_head.specs.declared.HeadRead.the-variants as H
 use Rattle.sheet_answer.specs.declared.SheetRead.the-variants as R
-use Rattle.sheet_head.specs.Form.{hasGiven, leastGiven, mostGiven, hasPlan, headOf, ListFor}
+use Rattle.sheet_head.specs.Form.{hasGiven, leastGiven, mostGiven, hasPlan, headOf, ListFor, longestPlan}
 use Rattle.sheet_answer.specs.Sheets.{Sheet, sheetOf, ReadableSheet, SheetAt, printedSheet}
 use Rattle.sheet_head.specs.Reading.{HeadOf, HeadHolds, HeadAt}
 use Rattle.sheet_answer.specs.Running.{planLength, HoldsSheet, ReadySheet, SheetPrints, Answered, AnswersSheet}
-use Rattle.sheet_answer.proofs.Held.{either-fits}
-use Rattle.sheet_head.proofs.Lines.{SameHead, same-head, head-length, plan-shown, plan-known}
+use Rattle.sheet_head.proofs.Lines.{few-given, SameHead, same-head, head-length, plan-shown, plan-known}
 
 -- ---- the parts of a sheet
 
@@ -66,7 +66,7 @@ module _ (bytes : List ℕ) (at : ℕ) where
       → AnswersSheet bytes at out printed (R.Bad r)
   no-head a given plan given' plan' h e out printed r l p =
       let none : HeadAt bytes at given plan given' plan' H.Bad = rw e at h in
-      refused out printed r l p λ to S s. none (S .call) (S .given) (S .plan) (blank (S .task .job)) (sheet-head to S s)
+      refused out printed r l p λ to S s. none .2 (S .call) (S .given) (S .plan) (blank (S .task .job)) (sheet-head to S s)
 
 -- ---- the lists that a call is lent
 
@@ -134,16 +134,7 @@ module _ (bytes : List ℕ) (at : ℕ) (a : HeadRead) (given given' plan' : List
           }
 
       task-held : Holds h new (found .0)
-      task-held =
-          let U = found .0 in
-          record {
-            readable = found .1 .2;
-            header = found .2;
-            vehicles = ap (λ x. take (length (U .job .vehicles)) (x .vehicles)) (found .3) ∙ over-front (U .job .vehicles) (old .vehicles);
-            stops = ap (λ x. take (length (U .job .stops)) (x .stops)) (found .3) ∙ over-front (U .job .stops) (old .stops);
-            distances = ap (λ x. take (length (U .job .distances)) (x .distances)) (found .3) ∙ over-front (U .job .distances) (old .distances);
-            draws = ap (λ x. take (length (U .draws)) (x .draws)) (found .3) ∙ over-front (U .draws) (old .draws);
-          }
+      task-held = loaded-held h old new (found .0) (found .1 .2) (found .2) (found .3)
 
       whole : h .vehicles + h .stops ≡ vehicleCount (found .0 .job) + stopCount (found .0 .job)
       whole = omega (arith, ap (λ x. x .vehicles) (found .2), ap (λ x. x .stops) (found .2))
@@ -161,7 +152,7 @@ module _ (bytes : List ℕ) (at : ℕ) (a : HeadRead) (given given' plan' : List
                 (holds .lines .numbers) (holds .samePlan) (holds .countPlan) (omega (arith, r .vehicles, r .stops));
           }
 
-      pub sheet-ready : (out : List ℕ) → Room new → length given' ≡ 8 → length plan' ≡ longestPlan → mostPrinted ≤ length out
+      pub sheet-ready : (out : List ℕ) → Room new → length given' ≡ 8 → length plan' ≡ longestPlan → mostForSheet ≤ length out
           → ReadySheet k h new given' plan' out
       sheet-ready out room g p m =
           record {
@@ -172,7 +163,7 @@ module _ (bytes : List ℕ) (at : ℕ) (a : HeadRead) (given given' plan' : List
               arith,
               holds .countGiven,
               short (hasGiven (k .call)) (leastGiven (k .call)) (mostGiven (k .call)) 8 (holds .stops) (holds .lines .stops)
-                  (either-fits (eqb (k .call) 3) 2 8 8 (omega arith) (omega arith)),
+                  (few-given (k .call)),
             );
             lined = omega (arith, holds .countPlan, short (hasPlan (k .call)) 0 longestPlan longestPlan (holds .numbers) (holds .lines .numbers) (omega arith));
             long = p;

@@ -7,16 +7,15 @@ use mathlib.Core.List.{List, []}
 use lib.ListN.{length, take, length-take}
 use Rattle.file_job.specs.declared.Header.{Header}
 use Rattle.file_job.specs.Reading.{Buffers}
-use Rattle.shuttle_answers.proofs.Laws.{taskIn, same-task}
+use Rattle.file_job.proofs.Held.{taskIn, same-task}
 use Rattle.file_printing.specs.Printing.{Prints}
-use Rattle.sheet_lines.specs.Printed.{longestPlan}
 use Rattle.sheet_head.specs.declared.Head.{Head}
-use Rattle.sheet_head.specs.Form.{hasGiven, leastGiven, mostGiven, hasPlan, ListFor}
+use Rattle.sheet_head.specs.Form.{hasGiven, leastGiven, mostGiven, hasPlan, ListFor, longestPlan}
 use Rattle.sheet_answer.specs.Sheets.{callOf, printedCall}
 use Rattle.sheet_answer.specs.Running.{Runs, planLength, ReadySheet, SheetPrints}
 
 -- the one or the other is short enough
-pub either-fits : (b : Bool) (x y m : ℕ) → x ≤ m → y ≤ m → cond b x y ≤ m
+either-fits : (b : Bool) (x y m : ℕ) → x ≤ m → y ≤ m → cond b x y ≤ m
 either-fits true x y m h g = h
 either-fits false x y m h g = g
 

@@ -4,7 +4,6 @@ use Prim.Native.Nat.{ℕ, _+_, _*_, _≤_}
 use native.Mathlib.Omega.{arith}
 use mathlib.Core.Bool.{Bool, true, false}
 use mathlib.Core.List.{List, _++_}
-use lib.Dec.{eqb}
 use lib.ListN.{length, take, drop, length-append, length-drop}
 use lib.Seq.{take-append-le, drop-append-le}
 use Rattle.model.specs.Calls.{blank}
@@ -13,11 +12,9 @@ use Rattle.model.specs.File.{fileOf, Readable}
 use Rattle.model.proofs.Pieces.{fitting, line-length}
 use Rattle.model.proofs.Tasks.{file-length}
 use Rattle.file_job.proofs.Checked.{table-bytes}
-use Rattle.sheet_lines.specs.Printed.{longestPlan}
-use Rattle.sheet_head.specs.Form.{hasGiven, leastGiven, mostGiven, hasPlan, lineIf, headOf, ListFor}
+use Rattle.sheet_head.specs.Form.{hasGiven, leastGiven, mostGiven, hasPlan, lineIf, headOf, ListFor, longestPlan}
 use Rattle.sheet_answer.specs.Sheets.{Sheet, sheetOf, ReadableSheet, SheetAt, longestSheet}
-use Rattle.sheet_answer.proofs.Held.{either-fits}
-use Rattle.sheet_head.proofs.Lines.{head-length}
+use Rattle.sheet_head.proofs.Lines.{few-given, head-length}
 
 line-bytes : (b : Bool) (least most m : ℕ) (known ns : List ℕ) → ListFor b least most known ns → most ≤ m → length (lineIf b ns) ≤ 14 * m + 1
 line-bytes true least most m known ns f l = omega (arith, f .1, line-length ns (fitting (f .2)))
@@ -42,7 +39,7 @@ sheet-bytes S r =
       arith,
       length-append (headOf c (S .given) (S .plan)) (fileOf (S .task)),
       head-length (fileOf (S .task)) 0 c (S .given) (S .plan) (r .last),
-      line-bytes (hasGiven c) (leastGiven c) (mostGiven c) 8 _ (S .given) (r .given) (either-fits (eqb c 3) 2 8 8 (omega arith) (omega arith)),
+      line-bytes (hasGiven c) (leastGiven c) (mostGiven c) 8 _ (S .given) (r .given) (few-given c),
       line-bytes (hasPlan c) 0 longestPlan 96 (blank (S .task .job)) (S .plan) (r .plan) (omega arith),
       file-bytes (S .task) (r .task),
     )

@@ -10,11 +10,11 @@ use Rattle.model.specs.File.{printedRefusal}
 use Rattle.file_job.specs.declared.Header.{Header}
 use Rattle.file_job.specs.Reading.{Buffers, Holds, Bounds}
 use Rattle.file_printing.specs.Printing.{Prints}
-use Rattle.sheet_lines.specs.Printed.{Printable, longestPlan, mostPrinted}
+use Rattle.sheet_lines.specs.Printed.{Printable, mostForSheet}
 use Rattle.sheet_head.specs.declared.Head.{Head}
 use Rattle.sheet_answer.specs.declared.SheetRead.{SheetRead}
 use Rattle.sheet_answer.specs.declared.SheetRead.the-variants as R
-use Rattle.sheet_head.specs.Form.{hasPlan}
+use Rattle.sheet_head.specs.Form.{hasPlan, longestPlan}
 use Rattle.sheet_answer.specs.Sheets.{Sheet, ReadableSheet, SheetAt, callOf, printedCall, printedSheet}
 
 -- a call's number, the stops and the plan that it is lent, and room to print into
@@ -49,7 +49,7 @@ pub record ReadySheet (k : Head) (h : Header) (m : Buffers) (given plan out : Li
   pub stops : k .given ≤ length given
   pub lined : k .plan ≤ longestPlan
   pub long : length plan ≡ longestPlan
-  pub room : mostPrinted ≤ length out
+  pub room : mostForSheet ≤ length out
 
 -- so many bytes are printed for that sheet
 abbrev pub SheetPrints : Head → Header → Buffers → List ℕ → List ℕ → List ℕ → List ℕ → ℕ → Type 0

@@ -2,16 +2,17 @@
 use mathlib.Core.Path.{_≡_}
 use Prim.Native.Nat.{ℕ, _+_, _≤_}
 use mathlib.Core.Bool.{cond}
-use mathlib.Core.List.{List, [], _++_}
+use mathlib.Core.List.{List, [], _∷_, _++_}
 use lib.Dec.{eqb}
 use lib.ListN.{length}
+use Rattle.model.specs.Lists.{forEach}
 use Rattle.model.specs.Job.{Job, jobOf}
 use Rattle.model.specs.Run.{Task}
 use Rattle.model.specs.File.{fileOf, Readable, Stands}
 use Rattle.model.specs.Refusals.{Arguments, asking, Call, Weigh, StartPlan, TwoOpt, Rebuild, Exhaustive, Pruned, Solve, unpriced, running}
 use Rattle.model.specs.Calls.{costAnswer, startAnswer, solveAnswer, planLeft, blank}
-use Rattle.sheet_head.specs.Form.{hasGiven, leastGiven, mostGiven, hasPlan, headOf, ListFor}
-use Rattle.sheet_lines.specs.Printed.{printedWeight, printedStart, printedWeighed, printedSolved, longestPlan}
+use Rattle.sheet_head.specs.Form.{hasGiven, leastGiven, mostGiven, hasPlan, headOf, ListFor, longestPlan}
+use Rattle.sheet_lines.specs.Printed.{printedWeight, printedStart, printedWeighed, printedSolved}
 
 -- a call's number, the given stops, the plan that is lent, and a task
 pub record Sheet : Type 0 where
@@ -82,3 +83,16 @@ printedCall Solve given plan T =
 
 abbrev pub printedSheet : Sheet → List ℕ
 printedSheet S = printedCall (callOf (S .call)) (S .given) (S .plan) (S .task)
+
+-- ---- sheets one after another
+
+abbrev pub sheetsOf : List Sheet → List ℕ
+sheetsOf Ss = forEach Ss sheetOf
+
+abbrev pub ReadableSheets : List Sheet → Type 0
+ReadableSheets [] = Unit {0}
+ReadableSheets (S ∷ Ss) = ReadableSheet S × ReadableSheets Ss
+
+-- their answers, in the same order
+abbrev pub printedSheets : List Sheet → List ℕ
+printedSheets Ss = forEach Ss printedSheet

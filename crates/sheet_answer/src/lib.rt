@@ -11,7 +11,7 @@ ghost use Rattle.model.specs.Run.{taskFor};
 ghost use Rattle.model.specs.Job.{jobOf};
 ghost use Rattle.file_job.specs.Reading.{buffers};
 ghost use Rattle.file_printing.specs.Printing.{Prints};
-ghost use Rattle.sheet_lines.specs.Printed.{mostPrinted};
+ghost use Rattle.sheet_lines.specs.Printed.{mostForSheet};
 ghost use Rattle.sheet_answer.specs.Sheets.{callOf, printedCall};
 ghost use Rattle.sheet_answer.specs.Running.{Runs, JobPrints, planLength, ReadySheet, SheetPrints, AnswersSheet};
 
@@ -174,7 +174,7 @@ fn run_sheet(
 
 // Answers the sheet that stands at a position, where others may follow it; refusal 14 is printed where none does.
 pub fn answer_sheet(bytes: &[u8], at: usize, out: &mut [u8]) -> SheetRead
-    requires { ⌜ mostPrinted ≤ length (now out) ⌝ }
+    requires { ⌜ mostForSheet ≤ length (now out) ⌝ }
     ensures { λ r. ⌜ AnswersSheet (now (bytes .entry)) at (now (out .entry)) (now (out .exit)) r ⌝ }
 {
     let mut given = [0u32; 8];

@@ -13,7 +13,7 @@ use Rattle.file_lines.specs.Standing.{LineAt}
 use Rattle.file_lines.proofs.Known.{one-number}
 use Rattle.sheet_head.specs.declared.ListRead.{ListRead}
 use Rattle.sheet_head.specs.declared.ListRead.the-variants as L
-use Rattle.sheet_head.specs.Form.{hasGiven, leastGiven, mostGiven, hasPlan}
+use Rattle.sheet_head.specs.Form.{hasGiven, leastGiven, mostGiven, hasPlan, longestPlan}
 use Rattle.sheet_head.specs.Reading.{ListAt, ListIf, CallAt}
 
 -- ---- the call's number
@@ -46,20 +46,20 @@ module _ (bytes : List ℕ) (at : ℕ) where
 
 -- ---- the lists of a call
 
-module _ (call : ℕ) (bytes : List ℕ) (at : ℕ) (old new : List ℕ) (a : ListRead) where
-  pub given-two : call ≡ 3 → ListAt bytes at 2 2 old new a → ListIf (hasGiven call) bytes at (leastGiven call) (mostGiven call) old new a
-  given-two e h = rw e h
+module _ (call : ℕ) (bytes : List ℕ) (at : ℕ) where
+  module _ (a : ListRead) where
+    pub given-two : call ≡ 3 → ListAt bytes at 2 2 a → ListIf (hasGiven call) bytes at (leastGiven call) (mostGiven call) a
+    given-two e h = rw e h
 
-  pub given-some : call ≡ 4 → ListAt bytes at 0 8 old new a → ListIf (hasGiven call) bytes at (leastGiven call) (mostGiven call) old new a
-  given-some e h = rw e h
+    pub given-some : call ≡ 4 → ListAt bytes at 0 8 a → ListIf (hasGiven call) bytes at (leastGiven call) (mostGiven call) a
+    given-some e h = rw e h
 
-  pub plan-some : (b : Bool) → b ≡ hasPlan call → b ≡ true → ListAt bytes at 0 96 old new a → ListIf (hasPlan call) bytes at 0 96 old new a
-  plan-some b f e h = rw (← f, e) h
+    pub plan-some : (b : Bool) → b ≡ hasPlan call → b ≡ true → ListAt bytes at 0 longestPlan a → ListIf (hasPlan call) bytes at 0 longestPlan a
+    plan-some b f e h = rw (← f, e) h
 
-module _ (call : ℕ) (bytes : List ℕ) (at : ℕ) (old : List ℕ) where
   pub given-none : (call ≡ 3 → ⊥) → (call ≡ 4 → ⊥)
-      → ListIf (hasGiven call) bytes at (leastGiven call) (mostGiven call) old old (L.Read (record { count = 0; end = at }))
-  given-none a b = rw (ne-eqb call 3 a, ne-eqb call 4 b) (refl, refl)
+      → ListIf (hasGiven call) bytes at (leastGiven call) (mostGiven call) (L.Read (record { count = 0; end = at }))
+  given-none a b = rw (ne-eqb call 3 a, ne-eqb call 4 b) refl
 
-  pub plan-none : (b : Bool) → b ≡ hasPlan call → b ≡ false → ListIf (hasPlan call) bytes at 0 96 old old (L.Read (record { count = 0; end = at }))
-  plan-none b f e = rw (← f, e) (refl, refl)
+  pub plan-none : (b : Bool) → b ≡ hasPlan call → b ≡ false → ListIf (hasPlan call) bytes at 0 longestPlan (L.Read (record { count = 0; end = at }))
+  plan-none b f e = rw (← f, e) refl

@@ -16,7 +16,7 @@ use Rattle.file_columns.specs.Field.{FieldAt}
 use Rattle.file_lines.specs.Standing.{LineAt, Fillable, Filled}
 use Rattle.file_lines.proofs.Checks.{line-start, line-end}
 use Rattle.sheet_head.specs.declared.ListRead.the-variants as L
-use Rattle.sheet_head.specs.Reading.{Listing, CountAt, ListAt}
+use Rattle.sheet_head.specs.Reading.{Listing, CountAt, ListAt, Fits, Laid}
 
 -- ---- a field does not begin with a line feed
 
@@ -91,43 +91,51 @@ module _ (bytes : List ℕ) (at : ℕ) where
   pub same-list : {l m l' m' : ℕ} (ns ms : List ℕ) → Listing bytes at l m ns → Listing bytes at l' m' ms → ns ≡ ms
   same-list ns ms h g = same-line bytes at ns ms (fitting (h .small)) (fitting (g .small)) (same-count ns ms h g) (h .stand) (g .stand)
 
--- ---- a line that was counted, checked and written
+-- ---- a line that was counted and checked
 
 module _ (bytes : List ℕ) (at least most count : ℕ) (counted : CountAt bytes at most count) where
-  pub too-few : (old : List ℕ) → count < least → ListAt bytes at least most old old L.Bad
-  too-few old l =
-      (refl, λ ns h. omega (arith, h .some, counted .count ns (record { some = omega arith; few = h .few; small = h .small; stand = h .stand })))
+  pub too-few : count < least → ListAt bytes at least most L.Bad
+  too-few l ns h =
+      omega (arith, h .some, counted .count ns (record { some = omega arith; few = h .few; small = h .small; stand = h .stand }))
 
-  pub no-line : (old : List ℕ) → (LineAt bytes at count → ⊥) → ListAt bytes at least most old old L.Bad
-  no-line old none = (
-    refl,
-    λ ns h.
-        let c = counted .count ns (record { some = omega arith; few = h .few; small = h .small; stand = h .stand }) in
-        none (record { numbers = ns; count = c; small = h .small; stand = h .stand }),
-  )
+  pub no-line : (LineAt bytes at count → ⊥) → ListAt bytes at least most L.Bad
+  no-line none ns h =
+      let c = counted .count ns (record { some = omega arith; few = h .few; small = h .small; stand = h .stand }) in
+      none (record { numbers = ns; count = c; small = h .small; stand = h .stand })
 
   module _ (there : LineAt bytes at count) where
-    one-line : lines 1 count (there .numbers) ≡ line 14 (there .numbers)
-    one-line = lines-one count (there .numbers) ∙ ap (line 14) (take-all count (there .numbers) (omega (arith, there .count)))
-
-    pub fillable : (list : List ℕ) → most ≤ length list → Fillable bytes at 1 count list
-    fillable list l =
-        record {
-          there = record { numbers = there .numbers; count = omega (arith, there .count); small = there .small; stand = rw one-line (there .stand) };
-          room = omega (arith, counted .few);
-        }
-
     pub line-within : at + (14 * count + 1) ≤ length bytes
     line-within = omega (arith, line-end bytes at count there .0)
 
-    pub list-read : (old new : List ℕ) → least ≤ count → Filled bytes at 1 count old new
-        → ListAt bytes at least most old new (L.Read (record { count = count; end = at + (14 * count + 1) }))
-    list-read old new l f =
-        let ns = there .numbers in
-        let e : length ns ≡ 1 * count = omega (arith, there .count) in (
-          ns,
-          record { some = omega (arith, there .count); few = omega (arith, there .count, counted .few); small = there .small; stand = there .stand },
-          sym (there .count),
-          ap (λ x. at + (14 * x + 1)) (sym (there .count)),
-          f ns e (there .small) (rw one-line (there .stand)) ∙ ap (λ x. ns ++ drop x old) (sym e),
-        )
+    pub list-read : least ≤ count → ListAt bytes at least most (L.Read (record { count = count; end = at + (14 * count + 1) }))
+    list-read l = (
+      there .numbers,
+      record { some = omega (arith, there .count); few = omega (arith, there .count, counted .few); small = there .small; stand = there .stand },
+      sym (there .count),
+      ap (λ x. at + (14 * x + 1)) (sym (there .count)),
+    )
+
+-- ---- a line that is written
+
+-- one line of so many numbers
+one-line : (count : ℕ) (ns : List ℕ) → length ns ≡ count → lines 1 count ns ≡ line 14 ns
+one-line count ns c = lines-one count ns ∙ ap (line 14) (take-all count ns (omega arith))
+
+module _ (bytes : List ℕ) (at count : ℕ) where
+  pub fillable : (list : List ℕ) → Fits bytes at count list → 1 ≤ count → Fillable bytes at 1 count list
+  fillable list f l =
+      let h = f .there l in
+      record {
+        there = record { numbers = h .numbers; count = omega (arith, h .count); small = h .small; stand = rw (one-line count (h .numbers) (h .count)) (h .stand) };
+        room = omega (arith, f .room);
+      }
+
+  pub laid : (old new : List ℕ) → 1 ≤ count → Filled bytes at 1 count old new → Laid bytes at count old new
+  laid old new l f ns c o s =
+      let e : length ns ≡ 1 * count = omega arith in
+      f ns e o (rw (one-line count ns c) (s l)) ∙ ap (λ x. ns ++ drop x old) (sym e)
+
+  -- for no numbers nothing is written
+  pub laid-none : (old : List ℕ) → count ≡ 0 → Laid bytes at count old old
+  laid-none old z [] c o s = refl
+  laid-none old z (n ∷ ns) c o s = absurd (omega arith)

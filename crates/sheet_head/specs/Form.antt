@@ -18,6 +18,10 @@ leastGiven n = cond (eqb n 3) 2 0
 abbrev pub mostGiven : ℕ → ℕ
 mostGiven n = cond (eqb n 3) 2 8
 
+-- the most numbers of a plan's line
+abbrev pub longestPlan : ℕ
+longestPlan = 96
+
 -- for 1, 3 and 4 a line with the plan's numbers
 abbrev pub hasPlan : ℕ → Bool
 hasPlan n = eqb n 1 || (eqb n 3 || eqb n 4)

@@ -5,14 +5,13 @@ use mathlib.Core.Bool.{Bool, true, false}
 use mathlib.Core.List.{List, [], _∷_}
 use lib.ListN.{length}
 use Rattle.model.specs.File.{line, NoneOver, Stands}
-use Rattle.file_lines.specs.Standing.{over}
+use Rattle.file_lines.specs.Standing.{LineAt, over}
 use Rattle.sheet_head.specs.declared.ListRead.{ListRead}
 use Rattle.sheet_head.specs.declared.ListRead.the-variants as L
 use Rattle.sheet_head.specs.declared.Head.{Head}
 use Rattle.sheet_head.specs.declared.HeadRead.{HeadRead}
 use Rattle.sheet_head.specs.declared.HeadRead.the-variants as H
-use Rattle.sheet_head.specs.Form.{hasGiven, leastGiven, mostGiven, hasPlan, headOf, ListFor}
-use Rattle.sheet_lines.specs.Printed.{longestPlan}
+use Rattle.sheet_head.specs.Form.{hasGiven, leastGiven, mostGiven, hasPlan, headOf, ListFor, longestPlan}
 
 -- ---- a line of numbers
 
@@ -28,16 +27,26 @@ pub record CountAt (bytes : List ℕ) (at most r : ℕ) : Type 0 where
   pub few : r ≤ most
   pub count : (ns : List ℕ) → Listing bytes at 0 most ns → length ns ≡ r
 
--- the numbers of the line are laid over the front of a list, or none such stands there and the list is unchanged
-abbrev pub ListAt : List ℕ → ℕ → ℕ → ℕ → List ℕ → List ℕ → ListRead → Type 0
-ListAt bytes at least most old new (L.Read l) =
-    (ns : List ℕ) × Listing bytes at least most ns × (l .count ≡ length ns) × (l .end ≡ at + (14 * length ns + 1)) × (new ≡ over ns old)
-ListAt bytes at least most old new L.Bad = (new ≡ old) × ((ns : List ℕ) → Listing bytes at least most ns → ⊥)
+-- so many numbers stand in the line, which ends there; or none such stands there
+abbrev pub ListAt : List ℕ → ℕ → ℕ → ℕ → ListRead → Type 0
+ListAt bytes at least most (L.Read l) =
+    (ns : List ℕ) × Listing bytes at least most ns × (l .count ≡ length ns) × (l .end ≡ at + (14 * length ns + 1))
+ListAt bytes at least most L.Bad = (ns : List ℕ) → Listing bytes at least most ns → ⊥
 
 -- the same where there is such a line; otherwise nothing is read
-abbrev pub ListIf : Bool → List ℕ → ℕ → ℕ → ℕ → List ℕ → List ℕ → ListRead → Type 0
-ListIf true bytes at least most old new a = ListAt bytes at least most old new a
-ListIf false bytes at least most old new a = (a ≡ L.Read (record { count = 0; end = at })) × (new ≡ old)
+abbrev pub ListIf : Bool → List ℕ → ℕ → ℕ → ℕ → ListRead → Type 0
+ListIf true bytes at least most a = ListAt bytes at least most a
+ListIf false bytes at least most a = a ≡ L.Read (record { count = 0; end = at })
+
+-- so many numbers stand in a line, and a list has room for them; for none there may be no line
+pub record Fits (bytes : List ℕ) (at count : ℕ) (list : List ℕ) : Type 0 where
+  pub there : 1 ≤ count → LineAt bytes at count
+  pub room : count ≤ length list
+
+-- they are laid over the front of a list
+abbrev pub Laid : List ℕ → ℕ → ℕ → List ℕ → List ℕ → Type 0
+Laid bytes at count old new =
+    (ns : List ℕ) → length ns ≡ count → NoneOver ns → (1 ≤ count → Stands bytes at (line 14 ns)) → new ≡ over ns old
 
 -- ---- the lines before the job file
 
@@ -71,8 +80,8 @@ pub record HeadHolds (bytes : List ℕ) (at : ℕ) (k : Head) (given plan given'
   pub sameGiven : given' ≡ over stops given
   pub samePlan : plan' ≡ over numbers plan
 
--- so, or none such stand there
+-- so, or none such stand there, and the lists that are lent are as they were
 abbrev pub HeadAt : List ℕ → ℕ → List ℕ → List ℕ → List ℕ → List ℕ → HeadRead → Type 0
 HeadAt bytes at given plan given' plan' (H.Read k) = HeadHolds bytes at k given plan given' plan'
 HeadAt bytes at given plan given' plan' H.Bad =
-    (call : ℕ) (stops numbers known : List ℕ) → HeadOf bytes at call stops numbers known → ⊥
+    (given' ≡ given) × (plan' ≡ plan) × ((call : ℕ) (stops numbers known : List ℕ) → HeadOf bytes at call stops numbers known → ⊥)

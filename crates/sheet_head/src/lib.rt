@@ -1,10 +1,8 @@
 // What stands before the job file of a call sheet: the call's number, and its lines of given stops and of a plan.
 use file_columns::Field;
 ghost use mathlib.Core.Path.{_≡_};
-ghost use Prim.Native.Nat.{_≤_};
-ghost use lib.ListN.{length};
-ghost use Rattle.sheet_head.specs.Form.{hasGiven, leastGiven, mostGiven, hasPlan};
-ghost use Rattle.sheet_head.specs.Reading.{CountAt, ListAt, ListIf, CallAt, Lent, HeadAt};
+ghost use Rattle.sheet_head.specs.Form.{hasGiven, leastGiven, mostGiven, hasPlan, longestPlan};
+ghost use Rattle.sheet_head.specs.Reading.{CountAt, ListAt, ListIf, Fits, Laid, CallAt, Lent, HeadAt};
 
 // A line of numbers that was read: how many there are, and the position after it.
 pub struct Listed {
@@ -47,10 +45,9 @@ fn count_fields(bytes: &[u8], at: usize, most: usize) -> usize
     i
 }
 
-// The numbers of the line at a position, at least and at most so many, written to the front of a list.
-fn read_list(bytes: &[u8], at: usize, least: usize, most: usize, list: &mut [u32]) -> ListRead
-    requires { ⌜ most ≤ length (now list) ⌝ }
-    ensures { λ r. ⌜ ListAt (now (bytes .entry)) at least most (now (list .entry)) (now (list .exit)) r ⌝ }
+// The line at a position, of at least and at most so many numbers, which are only checked.
+fn check_list(bytes: &[u8], at: usize, least: usize, most: usize) -> ListRead
+    ensures { λ r. ⌜ ListAt (now (bytes .entry)) at least most r ⌝ }
 {
     let count = count_fields(bytes, at, most);
     if count < least {
@@ -59,7 +56,6 @@ fn read_list(bytes: &[u8], at: usize, least: usize, most: usize, list: &mut [u32
     if !file_lines::check_line(bytes, at, count) {
         return ListRead::Bad;
     }
-    file_lines::fill_lines(bytes, at, 1, count, list);
     ListRead::Read(Listed {
         count,
         end: at + (14 * count + 1),
@@ -67,16 +63,14 @@ fn read_list(bytes: &[u8], at: usize, least: usize, most: usize, list: &mut [u32
 }
 
 // The given stops of a call, where it has a line with them.
-fn read_given(bytes: &[u8], at: usize, call: u32, given: &mut [u32]) -> ListRead
-    requires { ⌜ 8 ≤ length (now given) ⌝ }
-    ensures { λ r. ⌜ ListIf (hasGiven call) (now (bytes .entry)) at (leastGiven call) (mostGiven call)
-        (now (given .entry)) (now (given .exit)) r ⌝ }
+fn check_given(bytes: &[u8], at: usize, call: u32) -> ListRead
+    ensures { λ r. ⌜ ListIf (hasGiven call) (now (bytes .entry)) at (leastGiven call) (mostGiven call) r ⌝ }
 {
     if call == 3 {
-        return read_list(bytes, at, 2, 2, given);
+        return check_list(bytes, at, 2, 2);
     }
     if call == 4 {
-        return read_list(bytes, at, 0, 8, given);
+        return check_list(bytes, at, 0, 8);
     }
     ListRead::Read(Listed { count: 0, end: at })
 }
@@ -95,14 +89,24 @@ pub fn has_plan(call: u32) -> bool
 }
 
 // The numbers of a call's plan, where it has a line with them.
-fn read_plan(bytes: &[u8], at: usize, call: u32, plan: &mut [u32]) -> ListRead
-    requires { ⌜ 96 ≤ length (now plan) ⌝ }
-    ensures { λ r. ⌜ ListIf (hasPlan call) (now (bytes .entry)) at 0 96 (now (plan .entry)) (now (plan .exit)) r ⌝ }
+fn check_plan(bytes: &[u8], at: usize, call: u32) -> ListRead
+    ensures { λ r. ⌜ ListIf (hasPlan call) (now (bytes .entry)) at 0 longestPlan r ⌝ }
 {
     if has_plan(call) {
-        return read_list(bytes, at, 0, 96, plan);
+        return check_list(bytes, at, 0, 96);
     }
     ListRead::Read(Listed { count: 0, end: at })
+}
+
+// The numbers of a line that was checked, written to the front of a list. Where there are none there may be no line.
+fn fill_list(bytes: &[u8], at: usize, count: usize, list: &mut [u32])
+    requires { ⌜ Fits (now bytes) at count (now list) ⌝ }
+    ensures { λ _. ⌜ Laid (now (bytes .entry)) at count (now (list .entry)) (now (list .exit)) ⌝ }
+{
+    if count == 0 {
+        return;
+    }
+    file_lines::fill_lines(bytes, at, 1, count, list);
 }
 
 // The call's number in the line at a position, 0 where none of the seven stands there.
@@ -119,7 +123,8 @@ fn read_call(bytes: &[u8], at: usize) -> u32
     call
 }
 
-// The lines of a sheet before its job file: its lists go to the front of those that are lent.
+// The lines of a sheet before its job file. They are first checked, and only then do its lists go to the front of those that are
+// lent, so that a refusal leaves these as they were.
 pub fn read_head(bytes: &[u8], at: usize, given: &mut [u32], plan: &mut [u32]) -> HeadRead
     requires { ⌜ Lent (now given) (now plan) ⌝ }
     ensures { λ r. ⌜ HeadAt (now (bytes .entry)) at (now (given .entry)) (now (plan .entry)) (now (given .exit)) (now (plan .exit)) r ⌝ }
@@ -128,13 +133,16 @@ pub fn read_head(bytes: &[u8], at: usize, given: &mut [u32], plan: &mut [u32]) -
     if call < 1 {
         return HeadRead::Bad;
     }
-    let ListRead::Read(g) = read_given(bytes, at + 15, call, given) else {
+    let first = at + 15;
+    let ListRead::Read(g) = check_given(bytes, first, call) else {
         return HeadRead::Bad;
     };
-    let next = g.end;
-    let ListRead::Read(p) = read_plan(bytes, next, call, plan) else {
+    let second = g.end;
+    let ListRead::Read(p) = check_plan(bytes, second, call) else {
         return HeadRead::Bad;
     };
+    fill_list(bytes, first, g.count, given);
+    fill_list(bytes, second, p.count, plan);
     HeadRead::Read(Head {
         call,
         given: g.count,

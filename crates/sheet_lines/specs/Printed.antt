@@ -14,6 +14,7 @@ use Rattle.model.specs.Whole.{IsWhole}
 use Rattle.model.specs.File.{line, printedRefusal}
 use Rattle.file_printing.specs.Printing.{printedTotals}
 use Rattle.sheet_printing.specs.Costs.{printedCost}
+use Rattle.sheet_head.specs.Form.{longestPlan}
 
 -- of weigh: the cost
 abbrev pub printedWeight : Weighed → List ℕ
@@ -35,18 +36,14 @@ abbrev pub printedSolved : Solved → List ℕ → List ℕ
 printedSolved (S.Refused number) plan = printedRefusal number
 printedSolved (S.Ran t) plan = printedTotals t ++ line 14 plan
 
--- the longest plan of a sheet
-abbrev pub longestPlan : ℕ
-longestPlan = 96
-
 -- the most that is printed for a sheet: the numbers of a run and a plan
-abbrev pub mostPrinted : ℕ
-mostPrinted = 14 * longestPlan + 102
+abbrev pub mostForSheet : ℕ
+mostForSheet = 14 * longestPlan + 102
 
 -- a plan of a sheet, and room to print into
 pub record Printable (plan out : List ℕ) : Type 0 where
   pub short : length plan ≤ longestPlan
-  pub room : mostPrinted ≤ length out
+  pub room : mostForSheet ≤ length out
 
 -- an answer's cost is a whole number
 abbrev pub Exactly : Weighed → Type 0

@@ -13,15 +13,15 @@ use Rattle.file_job.specs.Reading.{Buffers, Holds, Bounds}
 use Rattle.file_printing.specs.Printing.{Prints}
 
 -- the most that is printed: 64 lines of stops, and the line of a run
-abbrev pub mostPrinted : ℕ
-mostPrinted = 64 * 9 + 101
+abbrev pub mostForFile : ℕ
+mostForFile = 64 * 9 + 101
 
 -- lists that are lent to run a task, and room to print into
 pub record Runnable (vs ss : List ℕ) (l : ℕ) (ds : List ℕ) (p : Prices) (plan out : List ℕ) : Type 0 where
   pub vehicles : length vs ≤ 32
   pub stops : length ss ≤ 64
   pub blank : plan ≡ blank (jobOf vs ss l ds p)
-  pub room : mostPrinted ≤ length out
+  pub room : mostForFile ≤ length out
 
 -- so it is of some task, with a plan to write to and room to print into
 pub record Ready (h : Header) (m : Buffers) (plan out : List ℕ) : Type 0 where
@@ -30,7 +30,7 @@ pub record Ready (h : Header) (m : Buffers) (plan out : List ℕ) : Type 0 where
   pub bounds : Bounds h m
   pub long : length plan ≡ 80
   pub blank : plan ≡ replicate 80 0
-  pub room : mostPrinted ≤ length out
+  pub room : mostForFile ≤ length out
 
 -- so many bytes are printed for that task
 abbrev pub TaskPrints : Header → Buffers → List ℕ → List ℕ → ℕ → Type 0

@@ -1,6 +1,8 @@
 // What the shuttle program does with the bytes that it reads: it reads the task, runs it and prints the answer, from one slice to another.
+use file_input::Filled;
 use file_job::Header;
 use file_job::TaskRead;
+use libc::STDOUT_FILENO;
 use model::Prices;
 use model::Solved;
 ghost use Prim.Native.Nat.{_≤_};
@@ -10,7 +12,7 @@ ghost use Rattle.model.specs.Run.{taskFor};
 ghost use Rattle.model.specs.Job.{jobOf};
 ghost use Rattle.file_job.specs.Reading.{buffers};
 ghost use Rattle.file_printing.specs.Printing.{Prints};
-ghost use Rattle.shuttle_answers.specs.Answers.{mostPrinted, Runnable, Ready, TaskPrints, Answers};
+ghost use Rattle.shuttle_answers.specs.Answers.{mostForFile, Runnable, Ready, TaskPrints, Answers};
 
 // Runs a task and prints the answer: how many bytes it is.
 fn run(
@@ -83,8 +85,8 @@ fn run_task(
 }
 
 // What is printed for the bytes of a file: how many bytes it is.
-pub fn answer(bytes: &[u8], out: &mut [u8]) -> usize
-    requires { ⌜ mostPrinted ≤ length (now out) ⌝ }
+fn answer(bytes: &[u8], out: &mut [u8]) -> usize
+    requires { ⌜ mostForFile ≤ length (now out) ⌝ }
     ensures { λ r. ⌜ Answers (now (bytes .entry)) (now (out .entry)) (now (out .exit)) r ⌝ }
 {
     let mut vehicles = [0u32; 32];
@@ -102,4 +104,19 @@ pub fn answer(bytes: &[u8], out: &mut [u8]) -> usize
     };
     let mut plan = [0u32; 80];
     run_task(h, &vehicles, &stops, &distances, &draws, &mut plan, out)
+}
+
+// Writes what is printed for the file of a descriptor to standard output. Its name is for the message where reading fails.
+pub fn print_answer(fd: i32, name: &[u8]) {
+    // one byte more than the longest job file has, so that a longer one is seen not to end there
+    let mut bytes = [0u8; 106593];
+    let Filled::Bytes(n) = file_input::fill(fd, &mut bytes, 0) else {
+        os::fail(name);
+        return;
+    };
+    let mut out = [0u8; 677];
+    let m = answer(&bytes[0..n], &mut out);
+    if !io::write_all(STDOUT_FILENO, &out[0..m]) {
+        os::fail(b"standard output");
+    }
 }

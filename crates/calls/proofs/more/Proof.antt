@@ -1,18 +1,17 @@
--- `calls::more` meets its contract.
 use borrow.Author.Needs.{needs}
 use native.Mathlib.Omega.{arith}
-use Rattle.calls.proofs.Turns.{read-on}
+use Rattle.calls.proofs.Turns.{unmoved, read-on}
 use Rattle.calls.proofs.more.Statement.{statement}
 use Rattle.calls.proofs.more.Tie as tie
 
 returns : tie.Need-returns
-returns c = search needs
+returns c = unmoved _ _ _ (omega arith) (omega arith) (λ e. omega arith)
 
 sub-if2 : tie.Need-sub-if2
 sub-if2 c = search needs
 
 returns-2 : tie.Need-returns-2
-returns-2 c = search needs
+returns-2 c = unmoved _ _ _ (omega arith) (omega arith) (λ e. omega arith)
 
 refill-requires : tie.Need-refill-requires
 refill-requires c κs = search needs
@@ -42,7 +41,7 @@ returns-4 : tie.Need-returns-4
 returns-4 c =
     let s = c .before .before .before .before .before .before .before .before .before .before in
     let f = c .before .before .before .before .before .refill in
-    read-on (s .args .at) (s .args .end) _ (s .args .bytes .now) _ (f .result) (f .ensures) (c .before .n .given .1) (s .pre .0) (omega arith) (s .pre .2)
+    read-on (s .args .at) (s .args .end) _ (s .args .bytes .now) _ (f .result) (f .ensures) (c .before .n .given .1) (s .pre .order) (omega arith) (s .pre .long)
 
 pub more-spec : {M : Type 1} → statement M
 more-spec =

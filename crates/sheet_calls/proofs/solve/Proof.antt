@@ -1,7 +1,7 @@
 -- `sheet_calls::solve` meets its contract.
 use mathlib.Core.Path.{sym, _∙_}
 use borrow.Author.Needs.{needs}
-use Rattle.shuttle_answers.proofs.Laws.{ran-priced}
+use Rattle.planner.proofs.Ran.{ran-priced}
 use Rattle.sheet_lines.proofs.Shown.{shown-solved}
 use Rattle.sheet_calls.proofs.solve.Statement.{statement}
 use Rattle.sheet_calls.proofs.solve.Tie as tie

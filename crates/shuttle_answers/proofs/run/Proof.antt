@@ -2,7 +2,8 @@
 use mathlib.Core.Path.{sym, _∙_}
 use native.Mathlib.Omega.{arith}
 use borrow.Author.Needs.{needs}
-use Rattle.shuttle_answers.proofs.Laws.{ran-sizes, ran-priced, ran-lent, refused-printed, run-printed}
+use Rattle.planner.proofs.Ran.{ran-sizes, ran-priced, ran-lent}
+use Rattle.shuttle_answers.proofs.Laws.{refused-printed, run-printed}
 use Rattle.shuttle_answers.proofs.run.Statement.{statement}
 use Rattle.shuttle_answers.proofs.run.Tie as tie
 

@@ -1,9 +1,9 @@
--- `damaged_files::print_answer` is safe: what it lends on lies within its buffers.
+-- `shuttle_answers::print_answer` is safe: what it lends on lies within its buffers.
 use native.Mathlib.Omega.{arith}
 use borrow.Author.Needs.{needs}
 use Rattle.file_input.proofs.Fronts.{filled-within}
-use Rattle.damaged_files.proofs.print_answer.Statement.{statement}
-use Rattle.damaged_files.proofs.print_answer.Tie as tie
+use Rattle.shuttle_answers.proofs.print_answer.Statement.{statement}
+use Rattle.shuttle_answers.proofs.print_answer.Tie as tie
 
 slice-aggregate-fill : tie.Need-slice-aggregate-fill
 slice-aggregate-fill c = search needs
