@@ -1,5 +1,6 @@
 // The candidates of a pair of stops on two routes, the tail exchange of Potvin and Rousseau 1995 widened by reversals and
-// exchanged heads: they are numbered, and weighed by the lengths of the two routes alone.
+// exchanged heads: they are numbered, and weighed by the lengths of the two routes alone. The binary digits of a number say: the
+// first route reversed (32), the second (16), the first cut after its stop (8), the second (4), heads exchanged (2), tails (1).
 ghost use mathlib.Core.Path.{_≡_};
 ghost use Prim.Native.Nat.{_+_, _≤_, _<_};
 ghost use Rattle.model.specs.Whole.{IsWhole};
@@ -102,6 +103,7 @@ fn least_of_turns(legs: &[u32], prices: Prices, x: Cuts, y: Cuts, code: usize, b
     requires { ⌜ TwoCutRoutes (now legs) prices x y × (code ≤ 48) × IsWhole (best .price) ⌝ }
     ensures { λ r. ⌜ IsWhole (r .price) × (found r ≡ afterTurns (now (legs .entry)) prices x y code (found best)) ⌝ }
 {
+    // a and c are cuts of the first route, b and d of the second.
     let a = x.before;
     let b = y.before;
     let c = x.after;
