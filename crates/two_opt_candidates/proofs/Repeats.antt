@@ -1,11 +1,13 @@
--- Of model's 256 candidates the 64 that are numbered are enough: the others are repeats, and a repeat never replaces the best so far. Assumes nothing.
+-- Of model's 256 candidates the 64 that are numbered are enough, and of each sixteen of these ten: the others are repeats, and a repeat never replaces the
+-- best so far. Assumes nothing.
 use Prim.Native.Nat.{ℕ, _+_, _/_, _%_, _≤_}
+use native.Mathlib.Omega.{arith}
 use native.Mathlib.Nat.{le-trans}
 use mathlib.Core.Path.{_≡_, refl, ap, _∙_}
-use mathlib.Core.Bool.{Bool, true, false}
+use mathlib.Core.Bool.{Bool, true, false, cond}
 use mathlib.Core.List.{List, [], _∷_, map}
-use lib.Dec.{eqb}
-use borrow.Author.Tests.{le-ltb}
+use lib.Dec.{eqb, ltb}
+use borrow.Author.Tests.{ltb-true, ltb-false, le-ltb}
 use Rattle.model.specs.Lists.{upFrom, forEach, position}
 use Rattle.model.specs.Job.{Job}
 use Rattle.model.specs.Plan.{Plan, routeOf}
@@ -13,6 +15,7 @@ use Rattle.model.specs.Cost.{cost}
 use Rattle.model.specs.TwoOpt.{cheapest, setRoute, turned, straight, exchanged, twoBits, offset, interCandidates, inter}
 use Rattle.model.proofs.Moves.{All, cheapest-le, cheapest-all, cheapest-append}
 use Rattle.two_opt_candidates.specs.Pairs.{planAt}
+use Rattle.two_opt_candidates.specs.Weighed.{tried}
 
 -- the ways to choose heads and tails: sixteen, of which four are different
 module _ (plan : Bool → Bool → Plan) where
@@ -77,3 +80,58 @@ module _ (J : Job) where
         (λ off. four (chosen (turn .0) (turn .1) (offset (off .0)) (offset (off .1))))
         (λ best off. sixteen-four (chosen (turn .0) (turn .1) (offset (off .0)) (offset (off .1))) best) best twoBits) P twoBits
         ∙ ap (cheapest J P) (numbered chosen)
+
+-- ---- ten of sixteen numbers
+
+module _ (code x : ℕ) (best : ℕ × ℕ) where
+  tried-le : (tried code x best .1 ≤ best .1) × (tried code x best .1 ≤ x)
+  unfolding tried
+  tried-le = go (ltb x (best .1)) refl
+    where
+      go : (t : Bool) → ltb x (best .1) ≡ t → (cond t (code, x) best .1 ≤ best .1) × (cond t (code, x) best .1 ≤ x)
+      go true e = omega (arith, ltb-true x (best .1) e)
+      go false e = omega (arith, ltb-false x (best .1) e)
+
+  -- a later candidate of equal price never replaces the best so far
+  passed : best .1 ≤ x → tried code x best ≡ best
+  unfolding tried
+  passed h = rw (le-ltb x (best .1) h)
+
+-- four, of which the first and the last are no cheaper than the best so far
+module _ (n : ℕ → ℕ) (g : ℕ → ℕ) where
+  abbrev pub two : ℕ → ℕ × ℕ → ℕ × ℕ
+  two d best = tried (n (d + 2)) (g (d + 2)) (tried (n (d + 1)) (g (d + 1)) best)
+
+  two-le : (d : ℕ) (best : ℕ × ℕ) → two d best .1 ≤ best .1
+  two-le d best =
+      omega (arith, tried-le (n (d + 2)) (g (d + 2)) (tried (n (d + 1)) (g (d + 1)) best) .0, tried-le (n (d + 1)) (g (d + 1)) best .0)
+
+  four-two : (d : ℕ) (best : ℕ × ℕ) → best .1 ≤ g d → best .1 ≤ g (d + 3)
+      → tried (n (d + 3)) (g (d + 3)) (two d (tried (n d) (g d) best)) ≡ two d best
+  four-two d best h k =
+      rw (passed (n d) (g d) best h) (passed (n (d + 3)) (g (d + 3)) (two d best) (omega (arith, two-le d best)))
+
+  -- the candidates of a list of digits
+  abbrev pub steps : List ℕ → ℕ × ℕ → ℕ × ℕ
+  steps [] best = best
+  steps (d ∷ ds) best = steps ds (tried (n d) (g d) best)
+
+  abbrev pub first-four : ℕ × ℕ → ℕ × ℕ
+  first-four best = tried (n 3) (g 3) (two 0 (tried (n 0) (g 0) best))
+
+  -- the first and the fourth are repeated by the other cuts
+  pub ten : (k w : ℕ) → (g 0 ≡ k) × (g 4 ≡ k) × (g 8 ≡ k) × (g 12 ≡ k) → (g 3 ≡ w) × (g 7 ≡ w) × (g 11 ≡ w) × (g 15 ≡ w) → (best : ℕ × ℕ)
+      → steps (upFrom 0 16) best ≡ two 12 (two 8 (two 4 (first-four best)))
+  ten k w K W best =
+      let b₀ : ℕ × ℕ = tried (n 0) (g 0) best in
+      let b : ℕ × ℕ = first-four best in
+      let l = tried-le (n 0) (g 0) best .1 in
+      let m = two-le 0 b₀ in
+      let r = tried-le (n 3) (g 3) (two 0 b₀) in
+      let c : ℕ × ℕ = two 4 b in
+      let lc = two-le 4 b in
+      let d : ℕ × ℕ = two 8 c in
+      let ld = two-le 8 c in
+      ap (steps (upFrom 8 8)) (four-two 4 b (omega arith) (omega arith))
+      ∙ ap (steps (upFrom 12 4)) (four-two 8 c (omega arith) (omega arith))
+      ∙ four-two 12 d (omega arith) (omega arith)

@@ -1,13 +1,12 @@
 -- What is weighed of two cut routes is the first of the cheapest of all 64 candidates. Assumes nothing.
-use Prim.Native.Nat.{ℕ, zero, suc, _+_, _*_, _/_, _%_, _<_, _≤_}
+use Prim.Native.Nat.{ℕ, zero, suc, _+_, _*_, _/_, _%_, _<_}
 use native.Mathlib.Omega.{arith}
 use native.Mathlib.Nat.{add-zero, add-suc}
 use mathlib.Core.Path.{_≡_, refl, sym, ap, ap₂, _∙_}
 use mathlib.Core.Bool.{Bool, true, false, cond}
-use mathlib.Core.List.{List, [], _∷_, reverse}
+use mathlib.Core.List.{List, reverse}
 use lib.Dec.{eqb, ltb}
 use lib.ListN.{length, take, drop, take-append-drop, length-take, length-drop}
-use borrow.Author.Tests.{ltb-true, ltb-false, le-ltb}
 use Rattle.model.specs.declared.Prices.{Prices}
 use Rattle.model.specs.Lists.{upFrom, member, position, Once}
 use Rattle.model.specs.Plan.{Route}
@@ -21,62 +20,9 @@ use Rattle.two_opt_cuts.specs.declared.Cuts.{Cuts}
 use Rattle.two_opt_cuts.specs.Ends.{CutAt, CutBy, reversedCuts}
 use Rattle.two_opt_cuts.proofs.Laws.{cut-reversed, head-short, tail-short, joined-way}
 use Rattle.two_opt_candidates.specs.Pairs.{pairPrice, priceAt, least, leastPair}
-use Rattle.two_opt_candidates.specs.Weighed.{tried, cutsPrice, afterTurns, afterAll, Sized, TwoRoutes, Routes}
+use Rattle.two_opt_candidates.specs.Weighed.{tried, cutsPrice, afterTurns, afterAll, cutOf, Sized, TwoCutRoutes, Routes}
+use Rattle.two_opt_candidates.proofs.Repeats.{two, steps, first-four, ten}
 use Rattle.two_opt_candidates.proofs.Pairs.{least-append}
-
--- ---- ten of sixteen
-
-module _ (code x : ℕ) (best : ℕ × ℕ) where
-  tried-le : (tried code x best .1 ≤ best .1) × (tried code x best .1 ≤ x)
-  unfolding tried
-  tried-le = go (ltb x (best .1)) refl
-    where
-      go : (t : Bool) → ltb x (best .1) ≡ t → (cond t (code, x) best .1 ≤ best .1) × (cond t (code, x) best .1 ≤ x)
-      go true e = omega (arith, ltb-true x (best .1) e)
-      go false e = omega (arith, ltb-false x (best .1) e)
-
-  -- a later candidate of equal price never replaces the best so far
-  passed : best .1 ≤ x → tried code x best ≡ best
-  unfolding tried
-  passed h = rw (le-ltb x (best .1) h)
-
--- four, of which the first and the last are no cheaper than the best so far
-module _ (n : ℕ → ℕ) (g : ℕ → ℕ) where
-  abbrev two : ℕ → ℕ × ℕ → ℕ × ℕ
-  two d best = tried (n (d + 2)) (g (d + 2)) (tried (n (d + 1)) (g (d + 1)) best)
-
-  two-le : (d : ℕ) (best : ℕ × ℕ) → two d best .1 ≤ best .1
-  two-le d best =
-      omega (arith, tried-le (n (d + 2)) (g (d + 2)) (tried (n (d + 1)) (g (d + 1)) best) .0, tried-le (n (d + 1)) (g (d + 1)) best .0)
-
-  four : (d : ℕ) (best : ℕ × ℕ) → best .1 ≤ g d → best .1 ≤ g (d + 3)
-      → tried (n (d + 3)) (g (d + 3)) (two d (tried (n d) (g d) best)) ≡ two d best
-  four d best h k =
-      rw (passed (n d) (g d) best h) (passed (n (d + 3)) (g (d + 3)) (two d best) (omega (arith, two-le d best)))
-
-  -- the candidates of a list of digits
-  abbrev steps : List ℕ → ℕ × ℕ → ℕ × ℕ
-  steps [] best = best
-  steps (d ∷ ds) best = steps ds (tried (n d) (g d) best)
-
-  abbrev first-four : ℕ × ℕ → ℕ × ℕ
-  first-four best = tried (n 3) (g 3) (two 0 (tried (n 0) (g 0) best))
-
-  ten : (k w : ℕ) → (g 0 ≡ k) × (g 4 ≡ k) × (g 8 ≡ k) × (g 12 ≡ k) → (g 3 ≡ w) × (g 7 ≡ w) × (g 11 ≡ w) × (g 15 ≡ w) → (best : ℕ × ℕ)
-      → steps (upFrom 0 16) best ≡ two 12 (two 8 (two 4 (first-four best)))
-  ten k w K W best =
-      let b₀ : ℕ × ℕ = tried (n 0) (g 0) best in
-      let b : ℕ × ℕ = first-four best in
-      let l = tried-le (n 0) (g 0) best .1 in
-      let m = two-le 0 b₀ in
-      let r = tried-le (n 3) (g 3) (two 0 b₀) in
-      let c : ℕ × ℕ = two 4 b in
-      let lc = two-le 4 b in
-      let d : ℕ × ℕ = two 8 c in
-      let ld = two-le 8 c in
-      ap (steps (upFrom 8 8)) (four 4 b (omega arith) (omega arith))
-      ∙ ap (steps (upFrom 12 4)) (four 8 c (omega arith) (omega arith))
-      ∙ four 12 d (omega arith) (omega arith)
 
 -- ---- numbers of candidates
 
@@ -101,18 +47,12 @@ in-blocks f best =
 
 -- ---- cuts
 
--- the cut before the stop, or after it
-cutOf : Cuts → ℕ → Cut
-cutOf c zero = c .before
-cutOf c (suc x) = c .after
-
 -- c is the route of stop s, reversed or not, cut before and after the stop
 record Side (t : List ℕ) (a b : ℕ) (turn : Bool) (r : Route) (s : ℕ) (c : Cuts) : Type 0 where
   cut : (x : ℕ) → x < 2 → CutAt t a b (turned turn r) (position s (turned turn r) + x) (cutOf c x)
 
 module _ {t : List ℕ} {a b : ℕ} {r : Route} {s : ℕ} {c : Cuts} (C : CutBy t a b r (position s r) c) where
   plain : Side t a b false r s c
-  unfolding cutOf
   plain = record { cut = go }
     where
       go : (x : ℕ) → x < 2 → CutAt t a b r (position s r + x) (cutOf c x)
@@ -121,7 +61,6 @@ module _ {t : List ℕ} {a b : ℕ} {r : Route} {s : ℕ} {c : Cuts} (C : CutBy 
       go (suc (suc x)) h = absurd (omega arith)
 
   back : Once r → member s r ≡ true → Side t a b true r s (reversedCuts c)
-  unfolding cutOf
   back o m = record { cut = go }
     where
       go : (x : ℕ) → x < 2 → CutAt t a b (reverse r) (position s (reverse r) + x) (cutOf (reversedCuts c) x)
@@ -161,7 +100,7 @@ module _ (t : List ℕ) (p : Prices) (a : ℕ) (ra : Route) (s b : ℕ) (rb : Ro
   side-block : (first : ℕ) → first ≡ 32 * x + 16 * y → (best : ℕ × ℕ)
       → least (priceAt t p a ra s b rb u) (upFrom (first + 0) 16) best
       ≡ two (λ n. first + n) (digitPrice t p c d) 12 (two (λ n. first + n) (digitPrice t p c d) 8 (two (λ n. first + n) (digitPrice t p c d) 4 (first-four (λ n. first + n) (digitPrice t p c d) best)))
-  unfolding digitPrice cutOf
+  unfolding digitPrice
   side-block first e best =
       least-steps (priceAt t p a ra s b rb u) (digitPrice t p c d) first 0 16 best (λ n h. side-price first n e h)
       ∙ ten (λ n. first + n) (digitPrice t p c d) _ _ (
@@ -186,32 +125,37 @@ module _ {t : List ℕ} {p : Prices} {a : ℕ} {ra : Route} {s b : ℕ} {rb : Ro
   second-there j e = rw e (position-lt u rb (R .secondStop))
 
   module _ {i j : ℕ} (ei : i ≡ position s ra) (ej : j ≡ position u rb) {c d : Cuts} (C : CutBy t a b ra i c) (D : CutBy t a b rb j d) where
-    pub two-routes : TwoRoutes t p c d
-    two-routes =
+    pub two-routes : TwoCutRoutes t p c d
+    two-routes x y =
         record {
           table = R .table;
           prices = R .prices;
           m = length ra;
           n = length rb;
           few = R .few;
-          firstBefore = sized ra i (R .firstRow) (C .0);
-          firstAfter = sized ra (i + 1) (R .firstRow) (C .1);
-          secondBefore = sized rb j (R .secondRow) (D .0);
-          secondAfter = sized rb (j + 1) (R .secondRow) (D .1);
+          first = sized ra i (R .firstRow) C x;
+          second = sized rb j (R .secondRow) D y;
         }
       where
-        sized : (r : Route) (k : ℕ) {e : Cut} → Drivable r → CutAt t a b r k e → Sized (length r) e
-        sized r k D E =
-            record {
-              heads = length (take k r);
-              tails = length (drop k r);
-              few = omega (arith, length-take k r, length-drop k r);
-              head = head-short k (R .table) (R .first) (R .second) D E;
-              tail = tail-short k (R .table) (R .first) (R .second) D E;
-            }
+        sized : (r : Route) (k : ℕ) {e : Cuts} → Drivable r → CutBy t a b r k e → (x : ℕ) → Sized (length r) (cutOf e x)
+        sized r k {e} D E x = go x
+          where
+            short : (l : ℕ) {f : Cut} → CutAt t a b r l f → Sized (length r) f
+            short l F =
+                record {
+                  heads = length (take l r);
+                  tails = length (drop l r);
+                  few = omega (arith, length-take l r, length-drop l r);
+                  head = head-short l (R .table) (R .first) (R .second) D F;
+                  tail = tail-short l (R .table) (R .first) (R .second) D F;
+                }
+
+            go : (x : ℕ) → Sized (length r) (cutOf e x)
+            go zero = short k (E .0)
+            go (suc x) = short (k + 1) (E .1)
 
     pub all-found : afterAll t p c d ≡ leastPair t p a ra s b rb u
-    unfolding leastPair afterAll afterTurns digitPrice cutOf
+    unfolding leastPair afterAll afterTurns digitPrice
     all-found =
         let f : ℕ → ℕ = priceAt t p a ra s b rb u in
         let A = plain {s = s} (rw ei at C) in

@@ -1,5 +1,5 @@
 -- Laws of weighing candidates in f64, and of the cuts that they are made of. Assumes nothing.
-use Prim.Native.Nat.{ℕ, _+_, _≤_}
+use Prim.Native.Nat.{ℕ, zero, suc, _+_, _≤_}
 use native.Mathlib.Omega.{arith}
 use mathlib.Core.Path.{_≡_, sym, _∙_}
 use mathlib.Core.Bool.{Bool, true, false}
@@ -16,7 +16,7 @@ use Rattle.two_opt_cuts.specs.declared.Ends.{Ends}
 use Rattle.two_opt_cuts.specs.declared.Cut.{Cut}
 use Rattle.two_opt_cuts.specs.declared.Cuts.{Cuts}
 use Rattle.two_opt_cuts.specs.Ends.{Shorts, reversedCuts}
-use Rattle.two_opt_candidates.specs.Weighed.{Weighs, tried, cutsPrice, afterExchange, afterTurns, afterAll, Joins, Sized, TwoCuts, TwoRoutes}
+use Rattle.two_opt_candidates.specs.Weighed.{Weighs, tried, cutsPrice, afterExchange, afterTurns, afterAll, Joins, TwoCuts, TwoCutRoutes}
 
 -- ---- prices
 
@@ -78,54 +78,34 @@ module _ {t : List ℕ} {p : Prices} {x y : Cut} (C : TwoCuts t p x y) where
 pub exchange : {t : List ℕ} {p : Prices} {x y : Cut} → TwoCuts t p x y → TwoCuts t p y x
 exchange C = record { table = C .table; prices = C .prices; m = C .n; n = C .m; few = omega (arith, C .few); first = C .second; second = C .first }
 
--- which cuts are taken of two routes
-module _ {t : List ℕ} {p : Prices} {x y : Cuts} (R : TwoRoutes t p x y) where
-  two-cuts : {c d : Cut} → Sized (R .m) c → Sized (R .n) d → TwoCuts t p c d
-  two-cuts C D = record { table = R .table; prices = R .prices; m = R .m; n = R .n; few = R .few; first = C; second = D }
+-- the first route reversed
+turn : {t : List ℕ} {p : Prices} {x y : Cut} → TwoCuts t p x y → TwoCuts t p (record { head = x .tail; tail = x .head }) y
+turn C =
+    let X = C .first in
+    record {
+      table = C .table;
+      prices = C .prices;
+      m = C .m;
+      n = C .n;
+      few = C .few;
+      first = record { heads = X .tails; tails = X .heads; few = omega (arith, X .few); head = X .tail; tail = X .head };
+      second = C .second;
+    }
 
-  pub both-before : TwoCuts t p (x .before) (y .before)
-  both-before = two-cuts (R .firstBefore) (R .secondBefore)
+module _ {t : List ℕ} {p : Prices} {x y : Cuts} (R : TwoCutRoutes t p x y) where
+  pub first-turned : {q : Cuts} → q ≡ reversedCuts x → TwoCutRoutes t p q y
+  first-turned e = rw e go
+    where
+      go : TwoCutRoutes t p (reversedCuts x) y
+      go zero j = turn (R 1 j)
+      go (suc i) j = turn (R 0 j)
 
-  pub first-after : TwoCuts t p (x .after) (y .before)
-  first-after = two-cuts (R .firstAfter) (R .secondBefore)
-
-  pub both-after : TwoCuts t p (x .after) (y .after)
-  both-after = two-cuts (R .firstAfter) (R .secondAfter)
-
--- a cut route that is reversed
-turn : {m : ℕ} {c : Cut} → Sized m c → Sized m (record { head = c .tail; tail = c .head })
-turn C = record { heads = C .tails; tails = C .heads; few = omega (arith, C .few); head = C .tail; tail = C .head }
-
-module _ {t : List ℕ} {p : Prices} {x y : Cuts} (R : TwoRoutes t p x y) where
-  pub second-turned : {q : Cuts} → q ≡ reversedCuts y → TwoRoutes t p x q
-  second-turned e =
-      rw e
-      record {
-        table = R .table;
-        prices = R .prices;
-        m = R .m;
-        n = R .n;
-        few = R .few;
-        firstBefore = R .firstBefore;
-        firstAfter = R .firstAfter;
-        secondBefore = turn (R .secondAfter);
-        secondAfter = turn (R .secondBefore);
-      }
-
-  pub first-turned : {q : Cuts} → q ≡ reversedCuts x → TwoRoutes t p q y
-  first-turned e =
-      rw e
-      record {
-        table = R .table;
-        prices = R .prices;
-        m = R .m;
-        n = R .n;
-        few = R .few;
-        firstBefore = turn (R .firstAfter);
-        firstAfter = turn (R .firstBefore);
-        secondBefore = R .secondBefore;
-        secondAfter = R .secondAfter;
-      }
+  pub second-turned : {q : Cuts} → q ≡ reversedCuts y → TwoCutRoutes t p x q
+  second-turned e = rw e go
+    where
+      go : TwoCutRoutes t p x (reversedCuts y)
+      go i zero = exchange (turn (exchange (R i 1)))
+      go i (suc j) = exchange (turn (exchange (R i 0)))
 
 -- ---- one after another
 

@@ -1,6 +1,6 @@
 -- What is asked of cut routes to weigh the candidates made of them, and what is found.
 use mathlib.Core.Path.{_≡_}
-use Prim.Native.Nat.{ℕ, _+_, _≤_, _<_}
+use Prim.Native.Nat.{ℕ, zero, suc, _+_, _≤_, _<_}
 use mathlib.Core.Bool.{Bool, true, false, cond}
 use mathlib.Core.List.{List}
 use lib.Dec.{ltb}
@@ -81,6 +81,11 @@ pub record Joins (t : List ℕ) (p : Prices) (h e g u : Ends) : Type 0 where
   pub secondTail : u .second .joint < 80
   pub second : g .second .out + u .second .back ≤ 12800000
 
+-- the cut before the stop, or after it
+abbrev pub cutOf : Cuts → ℕ → Cut
+cutOf c zero = c .before
+cutOf c (suc x) = c .after
+
 -- a cut route of at most m stops
 pub record Sized (m : ℕ) (c : Cut) : Type 0 where
   pub heads : ℕ
@@ -99,17 +104,9 @@ pub record TwoCuts (t : List ℕ) (p : Prices) (x y : Cut) : Type 0 where
   pub first : Sized m x
   pub second : Sized n y
 
--- the same of two routes that are cut before and after a stop
-pub record TwoRoutes (t : List ℕ) (p : Prices) (x y : Cuts) : Type 0 where
-  pub table : LegTable t
-  pub prices : Affordable p
-  pub m : ℕ
-  pub n : ℕ
-  pub few : m + n ≤ 64
-  pub firstBefore : Sized m (x .before)
-  pub firstAfter : Sized m (x .after)
-  pub secondBefore : Sized n (y .before)
-  pub secondAfter : Sized n (y .after)
+-- the same for every choice of the cuts of two routes
+abbrev pub TwoCutRoutes : List ℕ → Prices → Cuts → Cuts → Type 0
+TwoCutRoutes t p x y = (i j : ℕ) → TwoCuts t p (cutOf x i) (cutOf y j)
 
 -- two routes of vehicles a and b, and a stop on each
 pub record Routes (legs : List ℕ) (p : Prices) (a : ℕ) (ra : Route) (s b : ℕ) (rb : Route) (t : ℕ) : Type 0 where

@@ -1,11 +1,12 @@
 // The candidates of a pair of stops on two routes, the tail exchange of Potvin and Rousseau 1995 widened by reversals and
-// exchanged heads: they are numbered, and weighed by the lengths of the two routes alone.
+// exchanged heads: they are numbered, and weighed by the lengths of the two routes alone. The binary digits of a number say: the
+// first route reversed (32), the second (16), the first cut after its stop (8), the second (4), heads exchanged (2), tails (1).
 ghost use mathlib.Core.Path.{_≡_};
 ghost use Prim.Native.Nat.{_+_, _≤_, _<_};
 ghost use Rattle.model.specs.Whole.{IsWhole};
 ghost use Rattle.model.specs.Legs.{LegTable};
 ghost use Rattle.two_opt_candidates.specs.Pairs.{choiceOf, leastPair};
-ghost use Rattle.two_opt_candidates.specs.Weighed.{Weighs, found, tried, joinedLength, endsPrice, afterExchange, afterTurns, afterAll, Joins, TwoCuts, TwoRoutes, Routes};
+ghost use Rattle.two_opt_candidates.specs.Weighed.{Weighs, found, tried, joinedLength, endsPrice, afterExchange, afterTurns, afterAll, Joins, TwoCuts, TwoCutRoutes, Routes};
 use model::Prices;
 use two_opt_cuts::Cut;
 use two_opt_cuts::Cuts;
@@ -99,9 +100,10 @@ fn exchanged(legs: &[u32], prices: Prices, x: Cut, y: Cut, code: usize, best: Be
 // The best so far and the sixteen candidates of two routes that are turned in one way. Those that keep or exchange both heads
 // and tails have the same two routes for all cuts, so they are weighed once.
 fn least_of_turns(legs: &[u32], prices: Prices, x: Cuts, y: Cuts, code: usize, best: Best) -> Best
-    requires { ⌜ TwoRoutes (now legs) prices x y × (code ≤ 48) × IsWhole (best .price) ⌝ }
+    requires { ⌜ TwoCutRoutes (now legs) prices x y × (code ≤ 48) × IsWhole (best .price) ⌝ }
     ensures { λ r. ⌜ IsWhole (r .price) × (found r ≡ afterTurns (now (legs .entry)) prices x y code (found best)) ⌝ }
 {
+    // a and c are cuts of the first route, b and d of the second.
     let a = x.before;
     let b = y.before;
     let c = x.after;
@@ -116,7 +118,7 @@ fn least_of_turns(legs: &[u32], prices: Prices, x: Cuts, y: Cuts, code: usize, b
 
 // The best candidate of two routes that are cut: reversed is none of them, the second, the first, both.
 fn least_of_cuts(legs: &[u32], prices: Prices, x: Cuts, y: Cuts) -> Best
-    requires { ⌜ TwoRoutes (now legs) prices x y ⌝ }
+    requires { ⌜ TwoCutRoutes (now legs) prices x y ⌝ }
     ensures { λ r. ⌜ found r ≡ afterAll (now (legs .entry)) prices x y ⌝ }
 {
     let a = x.before;

@@ -2,7 +2,7 @@
 use borrow.Author.Needs.{needs}
 use native.Mathlib.Omega.{arith}
 use denote.Ref.{now}
-use Rattle.two_opt_candidates.proofs.Weighing.{weighs-amount, first-turned, second-turned, all-tried}
+use Rattle.two_opt_candidates.proofs.Weighing.{weighs-amount, joins-own, first-turned, second-turned, all-tried}
 use Rattle.two_opt_candidates.proofs.least_of_cuts.Statement.{statement}
 use Rattle.two_opt_candidates.proofs.least_of_cuts.Tie as tie
 
@@ -10,7 +10,7 @@ abbrev start : tie.After-b → tie.Start
 start c = c .before .before .before
 
 pair-price-requires : tie.Need-pair-price-requires
-pair-price-requires c κs = search needs
+pair-price-requires c κs = joins-own (start c .pre 0 0)
 
 reversed-requires : tie.Need-reversed-requires
 reversed-requires c κs = search needs

@@ -3,7 +3,7 @@ use borrow.Author.Needs.{needs}
 use native.Mathlib.Omega.{arith}
 use denote.Ref.{now}
 use Rattle.two_opt_candidates.specs.Weighed.{found}
-use Rattle.two_opt_candidates.proofs.Weighing.{joins-own, exchange, both-before, first-after, both-after, ten-tried}
+use Rattle.two_opt_candidates.proofs.Weighing.{joins-own, exchange, ten-tried}
 use Rattle.two_opt_candidates.proofs.least_of_turns.Statement.{statement}
 use Rattle.two_opt_candidates.proofs.least_of_turns.Tie as tie
 
@@ -11,34 +11,34 @@ abbrev start : tie.After-d → tie.Start
 start c = c .before .before .before .before .before
 
 weighed-requires : tie.Need-weighed-requires
-weighed-requires c κs = let s = start c in (joins-own (both-before (s .pre .0)), s .pre .2)
+weighed-requires c κs = let s = start c in (joins-own (s .pre .0 0 0), s .pre .2)
 
 exchanged-requires : tie.Need-exchanged-requires
-exchanged-requires c κs = search needs
+exchanged-requires c κs = let s = start (c .before) in (s .pre .0 0 0, omega (arith, s .pre .1), c .weighed .ensures .0)
 
 add-weighed : tie.Need-add-weighed
 add-weighed c = search needs
 
 weighed-requires-2 : tie.Need-weighed-requires-2
-weighed-requires-2 c κs = let s = start (c .before .before) in (joins-own (exchange (both-before (s .pre .0))), c .exchanged .ensures .0)
+weighed-requires-2 c κs = let s = start (c .before .before) in (joins-own (exchange (s .pre .0 0 0)), c .exchanged .ensures .0)
 
 add-exchanged : tie.Need-add-exchanged
 add-exchanged c = search needs
 
 exchanged-requires-2 : tie.Need-exchanged-requires-2
-exchanged-requires-2 c κs = search needs
+exchanged-requires-2 c κs = let s = start (c .before .before .before) in (s .pre .0 0 1, omega (arith, s .pre .1), c .weighed2 .ensures .0)
 
 add-exchanged-2 : tie.Need-add-exchanged-2
 add-exchanged-2 c = search needs
 
 exchanged-requires-3 : tie.Need-exchanged-requires-3
-exchanged-requires-3 c κs = let s = start (c .before .before .before .before) in (first-after (s .pre .0), omega (arith, s .pre .1), c .exchanged2 .ensures .0)
+exchanged-requires-3 c κs = let s = start (c .before .before .before .before) in (s .pre .0 1 0, omega (arith, s .pre .1), c .exchanged2 .ensures .0)
 
 add-exchanged-3 : tie.Need-add-exchanged-3
 add-exchanged-3 c = omega (arith, start (c .before .before .before .before .before) .pre .1)
 
 exchanged-requires-4 : tie.Need-exchanged-requires-4
-exchanged-requires-4 c κs = let s = start (c .before .before .before .before .before) in (both-after (s .pre .0), omega (arith, s .pre .1), c .exchanged3 .ensures .0)
+exchanged-requires-4 c κs = let s = start (c .before .before .before .before .before) in (s .pre .0 1 1, omega (arith, s .pre .1), c .exchanged3 .ensures .0)
 
 returns : tie.Need-returns
 returns c =
