@@ -43,11 +43,4 @@ returns-4 c = simp (
 pub of-numbers-spec : {M : Type 1} → statement M
 of-numbers-spec =
     tie.close
-    (tie.spec
-    bad-prices-requires
-    returns
-    bad-smoothing-requires
-    returns-2
-    bad-limit-requires
-    returns-3
-    returns-4)
+    (tie.spec bad-prices-requires returns bad-smoothing-requires returns-2 bad-limit-requires returns-3 returns-4)

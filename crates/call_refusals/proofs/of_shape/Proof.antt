@@ -57,13 +57,5 @@ returns-5 c = simp (
 pub of-shape-spec : {M : Type 1} → statement M
 of-shape-spec =
     tie.close
-    (tie.spec
-    bad-vehicles-requires
-    returns
-    bad-stops-requires
-    returns-2
-    bad-table-requires
-    returns-3
-    bad-length-requires
-    returns-4
+    (tie.spec bad-vehicles-requires returns bad-stops-requires returns-2 bad-table-requires returns-3 bad-length-requires returns-4
     returns-5)

@@ -42,12 +42,4 @@ returns-4 c =
 pub of-solve-spec : {M : Type 1} → statement M
 of-solve-spec =
     tie.close
-    (tie.spec
-    of-shape-requires
-    returns
-    bad-draws-requires
-    returns-2
-    of-entries-requires
-    returns-3
-    of-numbers-requires
-    returns-4)
+    (tie.spec of-shape-requires returns bad-draws-requires returns-2 of-entries-requires returns-3 of-numbers-requires returns-4)

@@ -63,13 +63,5 @@ returns-2 c =
 pub exhaustive-spec : {M : Type 1} → statement M
 exhaustive-spec =
     tie.close
-    (tie.spec
-    of-exhaustive-requires
-    same-length
-    returns
-    slice-aggregate-leg-table
-    leg-table-requires
-    slice-aggregate-exhaustive
-    exhaustive-requires
-    same-length-2
-    returns-2)
+    (tie.spec of-exhaustive-requires same-length returns slice-aggregate-leg-table leg-table-requires slice-aggregate-exhaustive
+    exhaustive-requires same-length-2 returns-2)

@@ -64,13 +64,5 @@ returns-2 c =
 pub pruned-spec : {M : Type 1} → statement M
 pruned-spec =
     tie.close
-    (tie.spec
-    of-exhaustive-requires
-    same-length
-    returns
-    slice-aggregate-leg-table
-    leg-table-requires
-    slice-aggregate-pruned
-    pruned-requires
-    same-length-2
-    returns-2)
+    (tie.spec of-exhaustive-requires same-length returns slice-aggregate-leg-table leg-table-requires slice-aggregate-pruned pruned-requires
+    same-length-2 returns-2)

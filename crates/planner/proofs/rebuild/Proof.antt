@@ -62,13 +62,5 @@ returns-2 c =
 pub rebuild-spec : {M : Type 1} → statement M
 rebuild-spec =
     tie.close
-    (tie.spec
-    of-rebuild-requires
-    same-length
-    returns
-    slice-aggregate-leg-table
-    leg-table-requires
-    slice-aggregate-rebuild
-    rebuild-requires
-    same-length-2
-    returns-2)
+    (tie.spec of-rebuild-requires same-length returns slice-aggregate-leg-table leg-table-requires slice-aggregate-rebuild rebuild-requires
+    same-length-2 returns-2)

@@ -69,13 +69,5 @@ returns-2 c =
 pub solve-spec : {M : Type 1} → statement M
 solve-spec =
     tie.close
-    (tie.spec
-    of-solve-requires
-    same-length
-    returns
-    slice-aggregate-leg-table
-    leg-table-requires
-    slice-aggregate-run
-    run-requires
-    same-length-2
-    returns-2)
+    (tie.spec of-solve-requires same-length returns slice-aggregate-leg-table leg-table-requires slice-aggregate-run run-requires
+    same-length-2 returns-2)

@@ -61,13 +61,5 @@ returns-2 c =
 pub start-plan-spec : {M : Type 1} → statement M
 start-plan-spec =
     tie.close
-    (tie.spec
-    of-start-plan-requires
-    same-length
-    returns
-    slice-aggregate-leg-table
-    leg-table-requires
-    slice-aggregate-start-plan
-    start-plan-requires
-    same-length-2
-    returns-2)
+    (tie.spec of-start-plan-requires same-length returns slice-aggregate-leg-table leg-table-requires slice-aggregate-start-plan
+    start-plan-requires same-length-2 returns-2)

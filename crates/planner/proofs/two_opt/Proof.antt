@@ -81,16 +81,5 @@ returns-2 c =
 pub two-opt-spec : {M : Type 1} → statement M
 two-opt-spec =
     tie.close
-    (tie.spec
-    slice-aggregate-of-rebuild
-    of-rebuild-requires
-    same-length
-    returns
-    slice-aggregate-leg-table
-    leg-table-requires
-    slice-aggregate-pair
-    pair-requires
-    slice-aggregate-cost
-    cost-requires
-    same-length-2
-    returns-2)
+    (tie.spec slice-aggregate-of-rebuild of-rebuild-requires same-length returns slice-aggregate-leg-table leg-table-requires
+    slice-aggregate-pair pair-requires slice-aggregate-cost cost-requires same-length-2 returns-2)

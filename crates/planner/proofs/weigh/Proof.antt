@@ -55,11 +55,4 @@ returns-2 c =
 pub weigh-spec : {M : Type 1} → statement M
 weigh-spec =
     tie.close
-    (tie.spec
-    of-weigh-requires
-    returns
-    slice-aggregate-leg-table
-    leg-table-requires
-    slice-aggregate-cost
-    cost-requires
-    returns-2)
+    (tie.spec of-weigh-requires returns slice-aggregate-leg-table leg-table-requires slice-aggregate-cost cost-requires returns-2)
