@@ -1,6 +1,7 @@
 use borrow.Author.Needs.{needs}
 use mathlib.Core.Path.{refl}
 use native.Mathlib.Omega.{arith}
+use lib.ListN.{length-take}
 use Rattle.run_round.proofs.Steps.{ready, part-row, part-picks, row-lent, rounded}
 use Rattle.run_round.proofs.round.Statement.{statement}
 use Rattle.run_round.proofs.round.Tie as tie
@@ -79,7 +80,7 @@ rebuild-requires : tie.Need-rebuild-requires
 rebuild-requires c κs =
     let k = c .before .before .before .before in
     let p = passed k in
-    (ready (start (drew p) .pre .0) (p .pass .ensures .1 .0), rw part-picks (omega (arith, k .pick .ensures .long, k .pick .ensures .atMost)))
+    (ready (start (drew p) .pre .0) (p .pass .ensures .1 .0), simp length-take (omega (arith, k .pick .ensures .atMost)))
 
 counted-requires : tie.Need-counted-requires
 counted-requires c κs =
