@@ -56,6 +56,20 @@ module _ (bytes : List ℕ) (at : ℕ) where
     s .readable .task,
   )
 
+  -- one sheet stands there
+  pub same-sheet : (to too : ℕ) (S Z : Sheet) → SheetAt bytes at to S → SheetAt bytes at too Z → (too ≡ to) × (Z ≡ S)
+  same-sheet to too S Z s z =
+      let v = same-head bytes at (S .call) (Z .call) (S .given) (S .plan) (blank (S .task .job)) (Z .given) (Z .plan) (blank (Z .task .job))
+      (sheet-head to S s) (sheet-head too Z z) in
+      let f = sheet-file to S s in
+      let g : AcceptedAt bytes (at + length (headPart S)) too (Z .task) =
+      subst (λ x. AcceptedAt bytes (at + length x) too (Z .task)) (v .text) (sheet-file too Z z) in
+      let task : Z .task ≡ S .task = tasks.same-task bytes (at + length (headPart S)) (Z .task) (S .task) (g .2) (f .2) (g .0) (f .0) in
+      let plan : Z .plan ≡ S .plan = v .plan (ap (λ U. blank (U .job)) task) in (
+        g .1 ∙ ap (λ U. at + length (headPart S) + length (fileOf U)) task ∙ sym (f .1),
+        λ i. record { call = v .call i; given = v .given i; plan = plan i; task = task i },
+      )
+
   -- no sheet stands there, and so refusal 14 is printed
   refused : (out printed : List ℕ) (r : ℕ) → length printed ≡ length out → Prints out printed r (printedRefusal 14)
       → ((to : ℕ) (S : Sheet) → SheetAt bytes at to S → ⊥) → AnswersSheet bytes at out printed (R.Bad r)
@@ -184,18 +198,6 @@ module _ (bytes : List ℕ) (at : ℕ) (a : HeadRead) (given given' plan' : List
             readable = readable;
           }
 
-      only : (to : ℕ) (S : Sheet) → SheetAt bytes at to S → (to ≡ h .end) × (S ≡ sheetRead)
-      only to S s =
-          let w = same to S s in
-          let v = same-head bytes at (k .call) (S .call) (holds .stops) (sheetRead .plan) (blank (found .0 .job)) (S .given) (S .plan) (blank (S .task .job))
-          (sheet-head bytes at (h .end) sheetRead sheet-there) (sheet-head bytes at to S s) in
-          let g = same-file to S s in
-          let task : S .task ≡ found .0 = tasks.same-task bytes (k .end) (S .task) (found .0) (g .2) (found .1 .2) (g .0) (found .1 .0) in
-          let plan : S .plan ≡ sheetRead .plan = v .plan (ap (λ U. blank (U .job)) task) in (
-            g .1 ∙ ap (λ U. k .end + length (fileOf U)) task ∙ sym (found .1 .1),
-            λ i. record { call = w .call i; given = w .given i; plan = plan i; task = task i },
-          )
-
       sheet-long : at + 1 ≤ at + length (sheetOf sheetRead)
       sheet-long =
           let t = headOf (k .call) (holds .stops) (holds .numbers) in
@@ -214,7 +216,7 @@ module _ (bytes : List ℕ) (at : ℕ) (a : HeadRead) (given given' plan' : List
             sheet = sheetRead;
             there = sheet-there;
             prints = text;
-            only = only;
+            only = λ to S s. same-sheet bytes at (h .end) to sheetRead S sheet-there s;
             further = omega (arith, sheet-long, sheet-there .end);
             within = omega (arith, sheet-there .end, stands-within bytes at (sheetOf sheetRead) (omega (arith, sheet-long)) (sheet-there .stands));
             fits = prints-within out printed r (printedSheet sheetRead) text l;

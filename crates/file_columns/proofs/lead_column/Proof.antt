@@ -1,4 +1,3 @@
--- `file_columns::lead_column` meets its contract.
 use mathlib.Core.Path.{sym, _∙_, ap}
 use native.Mathlib.Omega.{arith}
 use Rattle.file_columns.specs.Field.{lastColumn}

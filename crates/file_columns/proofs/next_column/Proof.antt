@@ -1,4 +1,4 @@
--- `file_columns::next_column` meets its contract: a space, a digit, or a byte that leads to no number.
+-- A space, a digit, or a byte that leads to no number.
 use borrow.Author.Needs.{needs}
 use native.Mathlib.Omega.{arith}
 use Rattle.file_columns.proofs.Leads.{space-column, digit-column, no-column}

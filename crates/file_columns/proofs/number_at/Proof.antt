@@ -1,4 +1,3 @@
--- `file_columns::number_at` meets its contract.
 use borrow.Author.Needs.{needs}
 use native.Mathlib.Omega.{arith}
 use Rattle.file_columns.proofs.Numbers.{none-there, too-large, number-there}

@@ -1,4 +1,4 @@
--- `file_columns::read_field` meets its contract: the columns before the last hold the value, and the last column is a digit.
+-- The columns before the last hold the value, and the last column is a digit.
 use Prim.Native.Nat.{_-_}
 use mathlib.Core.Logic.{inl, inr}
 use native.Mathlib.Omega.{arith}

@@ -1,4 +1,4 @@
--- `file_input::fill` meets its contract. The measure is the room that is left.
+-- The measure is the room that is left.
 use mathlib.Core.Path.{_≡_}
 use Prim.Native.Nat.{_-_, _≤_}
 use native.Mathlib.Omega.{arith}

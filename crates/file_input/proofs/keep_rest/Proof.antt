@@ -1,4 +1,4 @@
--- `file_input::keep_rest` meets its contract: i bytes are moved.
+-- I bytes are moved.
 use mathlib.Core.Path.{_≡_, refl}
 use Prim.Native.Nat.{_-_, _≤_}
 use native.Mathlib.Omega.{arith}

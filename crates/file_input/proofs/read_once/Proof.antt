@@ -1,4 +1,3 @@
--- `file_input::read_once` meets its contract.
 use native.Mathlib.Omega.{arith}
 use lib.ListN.{length-take, length-drop}
 use borrow.Author.Needs.{needs}

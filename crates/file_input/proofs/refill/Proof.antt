@@ -1,4 +1,3 @@
--- `file_input::refill` meets its contract.
 use borrow.Author.Needs.{needs}
 use Rattle.file_input.proofs.Rests.{refilled}
 use Rattle.file_input.proofs.refill.Statement.{statement}

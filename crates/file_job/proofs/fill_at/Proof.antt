@@ -1,4 +1,3 @@
--- `file_job::fill_at` meets its contract.
 use native.Mathlib.Omega.{arith}
 use borrow.Author.Needs.{needs}
 use Rattle.file_job.specs.Reading.{buffers}

@@ -1,4 +1,3 @@
--- `file_job::read_at` meets its contract.
 use borrow.Author.Needs.{needs}
 use Rattle.file_job.proofs.Answers.{refused-at, loadable, task-read}
 use Rattle.file_job.proofs.read_at.Statement.{statement}

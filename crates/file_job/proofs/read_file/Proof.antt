@@ -1,4 +1,3 @@
--- `file_job::read_file` meets its contract.
 use native.Mathlib.Omega.{arith}
 use borrow.Author.Needs.{needs}
 use Rattle.file_job.proofs.Answers.{loadable, refused-whole, not-whole, whole-read}

@@ -1,4 +1,4 @@
--- `file_lines::check_fields` meets its contract: the fields up to `next` stand there.
+-- The fields up to `next` stand there.
 use mathlib.Core.Path.{_≡_}
 use Prim.Native.Nat.{_+_, _*_, _-_, _≤_}
 use native.Mathlib.Omega.{arith}

@@ -1,4 +1,4 @@
--- `file_lines::check_line` meets its contract: the fields, and a line feed after them.
+-- The fields, and a line feed after them.
 use native.Mathlib.Omega.{arith}
 use borrow.Author.Needs.{needs}
 use Rattle.file_lines.proofs.Checks.{said, denied, fields-end, line-whole, line-fields, line-end}

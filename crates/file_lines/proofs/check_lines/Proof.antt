@@ -1,4 +1,4 @@
--- `file_lines::check_lines` meets its contract: the lines up to `next` stand there.
+-- The lines up to `next` stand there.
 use mathlib.Core.Path.{_≡_}
 use Prim.Native.Nat.{_+_, _*_, _-_, _≤_}
 use native.Mathlib.Omega.{arith}

@@ -1,4 +1,4 @@
--- `file_lines::fill_lines` meets its contract: i numbers are written.
+-- I numbers are written.
 use mathlib.Core.Path.{_≡_, refl}
 use Prim.Native.Nat.{_-_, _≤_}
 use native.Mathlib.Omega.{arith}

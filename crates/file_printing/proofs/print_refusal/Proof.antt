@@ -1,4 +1,3 @@
--- `file_printing::print_refusal` meets its contract.
 use native.Mathlib.Omega.{arith}
 use borrow.Author.Needs.{needs}
 use Rattle.file_printing.proofs.Pieces.{refusal-printed}

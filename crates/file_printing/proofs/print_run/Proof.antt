@@ -1,4 +1,3 @@
--- `file_printing::print_run` meets its contract.
 use native.Mathlib.Omega.{arith}
 use Rattle.file_printing.proofs.Pieces.{run-printed}
 use borrow.Author.Needs.{needs}

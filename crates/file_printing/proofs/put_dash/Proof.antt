@@ -1,4 +1,3 @@
--- `file_printing::put_dash` meets its contract.
 use native.Mathlib.Omega.{arith}
 use borrow.Author.Needs.{needs}
 use lib.ListN.{length-set}

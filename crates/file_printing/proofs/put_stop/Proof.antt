@@ -1,4 +1,3 @@
--- `file_printing::put_stop` meets its contract.
 use native.Mathlib.Omega.{arith}
 use lib.ListN.{length-set}
 use borrow.Author.Needs.{needs}

@@ -1,4 +1,3 @@
--- `file_printing::put_totals` meets its contract.
 use native.Mathlib.Omega.{arith}
 use lib.ListN.{length-set}
 use Rattle.file_printing.proofs.Pieces.{totals-printed}

@@ -1,4 +1,3 @@
--- `file_printing::put_vehicle` meets its contract.
 use mathlib.Core.Path.{_∙_, ap}
 use native.Mathlib.Omega.{arith}
 use Rattle.model.specs.Plan.{decode}

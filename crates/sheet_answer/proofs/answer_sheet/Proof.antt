@@ -1,4 +1,3 @@
--- `sheet_answer::answer_sheet` meets its contract.
 use borrow.Author.Needs.{needs}
 use Rattle.sheet_answer.proofs.Found.{no-head, no-file, sheet-ready, sheet-answered}
 use Rattle.sheet_answer.proofs.answer_sheet.Statement.{statement}

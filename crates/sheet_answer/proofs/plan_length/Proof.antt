@@ -1,4 +1,3 @@
--- `sheet_answer::plan_length` meets its contract.
 use borrow.Author.Needs.{needs}
 use Rattle.sheet_answer.proofs.plan_length.Statement.{statement}
 use Rattle.sheet_answer.proofs.plan_length.Tie as tie

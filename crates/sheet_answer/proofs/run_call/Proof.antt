@@ -1,4 +1,3 @@
--- `sheet_answer::run_call` meets its contract.
 use borrow.Author.Needs.{needs}
 use mathlib.Core.Path.{refl}
 use mathlib.Core.List.{[]}

@@ -1,4 +1,3 @@
--- `sheet_answer::run_priced` meets its contract.
 use borrow.Author.Needs.{needs}
 use native.Mathlib.Omega.{arith}
 use Rattle.sheet_answer.proofs.Ran.{ran-two-opt, ran-rebuild, ran-exhaustive, ran-pruned}

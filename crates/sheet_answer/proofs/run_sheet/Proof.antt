@@ -1,4 +1,3 @@
--- `sheet_answer::run_sheet` meets its contract.
 use borrow.Author.Needs.{needs}
 use native.Mathlib.Omega.{arith}
 use Rattle.file_job.specs.Reading.{buffers}

@@ -1,4 +1,3 @@
--- `sheet_calls::solve` meets its contract.
 use mathlib.Core.Path.{sym, _∙_}
 use borrow.Author.Needs.{needs}
 use Rattle.planner.proofs.Ran.{ran-priced}

@@ -1,4 +1,3 @@
--- `sheet_calls::start_plan` meets its contract.
 use mathlib.Core.Path.{sym, _∙_}
 use borrow.Author.Needs.{needs}
 use Rattle.sheet_lines.proofs.Shown.{shown-start}

@@ -1,4 +1,3 @@
--- `sheet_calls::weigh` meets its contract.
 use mathlib.Core.Path.{refl, sym, _∙_}
 use native.Mathlib.Omega.{arith}
 use borrow.Author.Needs.{needs}

@@ -1,4 +1,4 @@
--- `sheet_head::count_fields` meets its contract: a line that stands there has at least i numbers.
+-- A line that stands there has at least i numbers.
 use mathlib.Core.Path.{_≡_}
 use mathlib.Core.List.{List}
 use Prim.Native.Nat.{ℕ, _+_, _*_, _-_, _≤_}

@@ -1,4 +1,3 @@
--- `sheet_head::has_plan` meets its contract.
 use borrow.Author.Tests.{ne-eqb}
 use Rattle.sheet_head.proofs.has_plan.Statement.{statement}
 use Rattle.sheet_head.proofs.has_plan.Tie as tie

@@ -1,4 +1,3 @@
--- `sheet_head::read_call` meets its contract.
 use borrow.Author.Needs.{needs}
 use native.Mathlib.Omega.{arith}
 use Rattle.file_lines.proofs.Checks.{said, denied}

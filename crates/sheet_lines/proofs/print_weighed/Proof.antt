@@ -1,4 +1,3 @@
--- `sheet_lines::print_weighed` meets its contract.
 use mathlib.Core.Path.{sym}
 use native.Mathlib.Omega.{arith}
 use borrow.Author.Needs.{needs}

@@ -1,4 +1,3 @@
--- `sheet_printing::print_cost` meets its contract.
 use borrow.Author.Needs.{needs}
 use Rattle.sheet_printing.proofs.ListLines.{one-piece, cost-length}
 use Rattle.sheet_printing.proofs.print_cost.Statement.{statement}

@@ -1,4 +1,3 @@
--- `sheet_printing::put_cost` meets its contract.
 use borrow.Author.Needs.{needs}
 use Rattle.sheet_printing.proofs.ListLines.{cost-line}
 use Rattle.sheet_printing.proofs.put_cost.Statement.{statement}

@@ -1,4 +1,3 @@
--- `shuttle_answers::answer` meets its contract.
 use mathlib.Core.Path.{refl}
 use borrow.Author.Needs.{needs}
 use Rattle.shuttle_answers.proofs.Laws.{file-ready, file-answers, no-file-answers}

@@ -1,4 +1,3 @@
--- `shuttle_answers::run_task` meets its contract.
 use borrow.Author.Needs.{needs}
 use Rattle.file_job.specs.Reading.{buffers}
 use Rattle.shuttle_answers.proofs.Laws.{runnable, task-prints}
