@@ -1,4 +1,4 @@
--- A pair of stops, by where the two are. Assumes nothing.
+-- A pair of stops, by where the two are.
 use mathlib.Core.Path.{_≡_, refl, sym, ap, _∙_}
 use mathlib.Core.Logic.{_≢_}
 use mathlib.Core.Bool.{Bool, true, false, cond, _&&_}

@@ -1,4 +1,4 @@
--- The pairs of a list of stops, one after another. Assumes nothing.
+-- The pairs of a list of stops, one after another.
 use mathlib.Core.Path.{_≡_, refl, sym, ap, _∙_, subst}
 use mathlib.Core.Logic.{_≢_}
 use mathlib.Core.List.{List, [], _∷_, _++_, map}

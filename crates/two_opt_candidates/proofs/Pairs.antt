@@ -1,4 +1,4 @@
--- The move is the plan of the numbered candidate whose two routes are cheapest over the leg table. Assumes nothing.
+-- The move is the plan of the numbered candidate whose two routes are cheapest over the leg table.
 use Prim.Native.Nat.{ℕ, _+_, _/_, _%_, _<_, _≤_}
 use native.Mathlib.Omega.{arith}
 use mathlib.Core.Path.{_≡_, refl, sym, ap, ap₂, _∙_}

@@ -1,5 +1,5 @@
 -- Of model's 256 candidates the 64 that are numbered are enough, and of each sixteen of these ten: the others are repeats, and a repeat never replaces the
--- best so far. Assumes nothing.
+-- best so far.
 use Prim.Native.Nat.{ℕ, _+_, _/_, _%_, _≤_}
 use native.Mathlib.Omega.{arith}
 use native.Mathlib.Nat.{le-trans}

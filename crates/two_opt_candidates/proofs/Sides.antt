@@ -1,4 +1,4 @@
--- What is weighed of two cut routes is the first of the cheapest of all 64 candidates. Assumes nothing.
+-- What is weighed of two cut routes is the first of the cheapest of all 64 candidates.
 use Prim.Native.Nat.{ℕ, zero, suc, _+_, _*_, _/_, _%_, _<_}
 use native.Mathlib.Omega.{arith}
 use native.Mathlib.Nat.{add-zero, add-suc}

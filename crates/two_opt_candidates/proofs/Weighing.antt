@@ -1,4 +1,4 @@
--- Laws of weighing candidates in f64, and of the cuts that they are made of. Assumes nothing.
+-- Laws of weighing candidates in f64, and of the cuts that they are made of.
 use Prim.Native.Nat.{ℕ, zero, suc, _+_, _≤_}
 use native.Mathlib.Omega.{arith}
 use mathlib.Core.Path.{_≡_, sym, _∙_}

@@ -1,4 +1,4 @@
--- Laws of the ends of routes. Assumes nothing.
+-- Laws of the ends of routes.
 use mathlib.Core.Path.{_≡_, refl, sym, ap, _∙_}
 use Prim.Native.Nat.{ℕ, _+_, _-_, _≤_, _<_}
 use native.Mathlib.Omega.{arith}

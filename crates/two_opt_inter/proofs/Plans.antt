@@ -1,4 +1,4 @@
--- Laws of the plans that are read and written. Assumes nothing.
+-- Laws of the plans that are read and written.
 use Prim.Native.Nat.{ℕ, _+_, _/_, _%_, _<_, _≤_}
 use native.Mathlib.Omega.{arith}
 use mathlib.Core.Path.{_≡_, sym, ap, _∙_}

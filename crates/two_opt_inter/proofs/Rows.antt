@@ -1,4 +1,4 @@
--- Laws of what is written into rows, and of the places where these are cut. Assumes nothing.
+-- Laws of what is written into rows, and of the places where these are cut.
 use Prim.Native.Nat.{ℕ, _+_, _-_, _≤_}
 use native.Mathlib.Omega.{arith}
 use mathlib.Core.Path.{_≡_, sym, ap, _∙_}

@@ -1,4 +1,4 @@
--- The choice of a pair on one route: over the leg table, and for every job that fits it. Assumes nothing.
+-- The choice of a pair on one route: over the leg table, and for every job that fits it.
 use mathlib.Core.Path.{_≡_, refl, sym, ap, ap₂, _∙_, subst}
 use mathlib.Core.Bool.{Bool, true, false, cond}
 use mathlib.Core.List.{List, []}

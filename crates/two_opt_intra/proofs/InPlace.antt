@@ -1,4 +1,4 @@
--- A route of a plan in the lent form, replaced by one as long. Assumes nothing.
+-- A route of a plan in the lent form, replaced by one as long.
 use mathlib.Core.Path.{_≡_, refl, sym, ap, _∙_}
 use mathlib.Core.List.{List, [], _++_, append-assoc}
 use Prim.Native.Nat.{ℕ, suc, _+_, _-_, _<_}

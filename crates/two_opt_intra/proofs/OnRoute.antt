@@ -1,4 +1,4 @@
--- A pair on one route of a plan that is lent. Assumes nothing.
+-- A pair on one route of a plan that is lent.
 use mathlib.Core.Path.{_≡_, refl, sym, ap, _∙_, subst}
 use mathlib.Core.Logic.{_≢_}
 use mathlib.Core.List.{List, _++_}

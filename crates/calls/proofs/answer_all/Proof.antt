@@ -165,44 +165,7 @@ returns-6 c = search needs
 
 pub answer-all-spec : {M : Type 1} → statement M
 answer-all-spec =
-    tie.close
-    (tie.spec
-    Inv-loop
-    μ-loop
-    loop-holds
-    turn-requires
-    enum-known-next
-    sub-print
-    part-print-start
-    part-print-end
-    print-requires
-    same-length
-    same-length-2
-    returns
-    add-printed
-    enum-known-n
-    sub-print-2
-    part-print-start-2
-    part-print-end-2
-    print-requires-2
-    same-length-3
-    same-length-4
-    returns-2
-    add-t33
-    same-length-5
-    same-length-6
-    returns-3
-    enum-told
-    same-length-7
-    same-length-8
-    returns-4
-    enum-told-2
-    same-length-9
-    same-length-10
-    returns-5
-    sub-turns
-    loop-less
-    loop-again
-    same-length-11
-    same-length-12
-    returns-6)
+    tie.close (tie.spec Inv-loop μ-loop loop-holds turn-requires enum-known-next sub-print part-print-start part-print-end print-requires
+    same-length same-length-2 returns add-printed enum-known-n sub-print-2 part-print-start-2 part-print-end-2 print-requires-2
+    same-length-3 same-length-4 returns-2 add-t33 same-length-5 same-length-6 returns-3 enum-told same-length-7 same-length-8 returns-4
+    enum-told-2 same-length-9 same-length-10 returns-5 sub-turns loop-less loop-again same-length-11 same-length-12 returns-6)

@@ -45,17 +45,5 @@ returns-4 c =
 
 pub more-spec : {M : Type 1} → statement M
 more-spec =
-    tie.close
-    (tie.spec
-    returns
-    sub-if2
-    returns-2
-    refill-requires
-    enum-known-n
-    enum-told
-    slice-aggregate-fail
-    fail-requires
-    same-length
-    returns-3
-    same-length-2
-    returns-4)
+    tie.close (tie.spec returns sub-if2 returns-2 refill-requires enum-known-n enum-told slice-aggregate-fail fail-requires same-length
+    returns-3 same-length-2 returns-4)

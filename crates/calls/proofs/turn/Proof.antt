@@ -80,24 +80,6 @@ returns-4 c =
 
 pub turn-spec : {M : Type 1} → statement M
 turn-spec =
-    tie.close
-    (tie.spec
-    more-requires
-    enum-known-from
-    enum-told
-    same-length
-    returns
-    same-length-2
-    returns-2
-    sub-answer-sheet
-    part-answer-sheet-start
-    part-answer-sheet-end
-    answer-sheet-requires
-    enum-known-next
-    enum-known-printed
-    same-length-3
-    same-length-4
-    returns-3
-    same-length-5
-    same-length-6
-    returns-4)
+    tie.close (tie.spec more-requires enum-known-from enum-told same-length returns same-length-2 returns-2 sub-answer-sheet
+    part-answer-sheet-start part-answer-sheet-end answer-sheet-requires enum-known-next enum-known-printed same-length-3 same-length-4
+    returns-3 same-length-5 same-length-6 returns-4)

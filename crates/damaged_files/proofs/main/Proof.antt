@@ -33,14 +33,4 @@ returns c = tt
 
 pub main-spec : {M : Type 1} → statement M
 main-spec =
-    tie.close
-    (tie.spec
-    Inv-loop
-    μ-loop
-    arg-count-requires
-    loop-holds
-    print-argument-requires
-    add-i
-    loop-less
-    loop-again
-    returns)
+    tie.close (tie.spec Inv-loop μ-loop arg-count-requires loop-holds print-argument-requires add-i loop-less loop-again returns)

@@ -113,22 +113,5 @@ returns c =
 
 pub driving-cost-spec : {M : Type 1} → statement M
 driving-cost-spec =
-    tie.close
-    (tie.spec
-    Inv-loop
-    μ-loop
-    loop-holds
-    mul-end
-    shared-slice-read-end
-    cast-end
-    add-end
-    mul-route-length
-    sub-route-length
-    part-route-length-start
-    part-route-length-end
-    route-length-requires
-    price-requires
-    add-k
-    loop-less
-    loop-again
-    returns)
+    tie.close (tie.spec Inv-loop μ-loop loop-holds mul-end shared-slice-read-end cast-end add-end mul-route-length sub-route-length
+    part-route-length-start part-route-length-end route-length-requires price-requires add-k loop-less loop-again returns)

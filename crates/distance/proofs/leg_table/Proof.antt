@@ -65,16 +65,4 @@ returns c =
 
 pub leg-table-spec : {M : Type 1} → statement M
 leg-table-spec =
-    tie.close
-    (tie.spec
-    Inv-loop
-    μ-loop
-    loop-holds
-    metres-requires
-    mul-legs
-    slice-write-legs
-    add-i
-    loop-less
-    loop-again
-    same-length
-    returns)
+    tie.close (tie.spec Inv-loop μ-loop loop-holds metres-requires mul-legs slice-write-legs add-i loop-less loop-again same-length returns)

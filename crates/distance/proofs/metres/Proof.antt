@@ -82,13 +82,5 @@ returns-3 c p =
 
 pub metres-spec : {M : Type 1} → statement M
 metres-spec =
-    tie.close
-    (tie.spec
-    is-place-requires
-    returns
-    is-place-requires-2
-    returns-2
-    place-from-requires
-    place-to-requires
-    lookup-requires
+    tie.close (tie.spec is-place-requires returns is-place-requires-2 returns-2 place-from-requires place-to-requires lookup-requires
     returns-3)

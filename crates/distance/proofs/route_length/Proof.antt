@@ -84,21 +84,5 @@ returns c =
 
 pub route-length-spec : {M : Type 1} → statement M
 route-length-spec =
-    tie.close
-    (tie.spec
-    Inv-loop
-    μ-loop
-    add-here
-    loop-holds
-    mul-next
-    shared-slice-read-next
-    cast-next
-    leg-requires
-    add-sum
-    add-i
-    loop-less
-    loop-again
-    add-leg
-    leg-requires-2
-    add-result
-    returns)
+    tie.close (tie.spec Inv-loop μ-loop add-here loop-holds mul-next shared-slice-read-next cast-next leg-requires add-sum add-i loop-less
+    loop-again add-leg leg-requires-2 add-result returns)

@@ -38,13 +38,5 @@ returns c =
 
 pub exhaustive-spec : {M : Type 1} → statement M
 exhaustive-spec =
-    tie.close
-    (tie.spec
-    full-requires
-    cast-t12
-    mul-end
-    array-share-prefix-regions
-    slice-aggregate-rearrange
-    rearrange-requires
-    same-length
+    tie.close (tie.spec full-requires cast-t12 mul-end array-share-prefix-regions slice-aggregate-rearrange rearrange-requires same-length
     returns)

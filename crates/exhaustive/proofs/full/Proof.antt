@@ -51,15 +51,5 @@ returns-2 c =
 
 pub full-spec : {M : Type 1} → statement M
 full-spec =
-    tie.close
-    (tie.spec
-    empty-requires
-    same-length
-    returns
-    cast-plan
-    slice-write-plan
-    array-share-prefix-stops
-    slice-aggregate-paste
-    paste-requires
-    same-length-2
-    returns-2)
+    tie.close (tie.spec empty-requires same-length returns cast-plan slice-write-plan array-share-prefix-stops slice-aggregate-paste
+    paste-requires same-length-2 returns-2)

@@ -34,14 +34,4 @@ returns-6 c = digit-column _ _ (omega arith) (omega arith) (omega arith)
 
 pub next-column-spec : {M : Type 1} → statement M
 next-column-spec =
-    tie.close
-    (tie.spec
-    returns
-    returns-2
-    returns-3
-    returns-4
-    mul-next
-    cast-next
-    add-next
-    returns-5
-    returns-6)
+    tie.close (tie.spec returns returns-2 returns-3 returns-4 mul-next cast-next add-next returns-5 returns-6)

@@ -62,21 +62,5 @@ returns c =
 
 pub put-number-spec : {M : Type 1} → statement M
 put-number-spec =
-    tie.close
-    (tie.spec
-    Inv-loop
-    μ-loop
-    sub-i
-    cast-out
-    add-out
-    add-out-2
-    slice-write-out
-    loop-holds
-    sub-i-2
-    lead-column-requires
-    add-out-3
-    slice-write-out-2
-    loop-less
-    loop-again
-    same-length
-    returns)
+    tie.close (tie.spec Inv-loop μ-loop sub-i cast-out add-out add-out-2 slice-write-out loop-holds sub-i-2 lead-column-requires add-out-3
+    slice-write-out-2 loop-less loop-again same-length returns)

@@ -95,28 +95,6 @@ returns-6 c =
 
 pub read-field-spec : {M : Type 1} → statement M
 read-field-spec =
-    tie.close
-    (tie.spec
-    Inv-loop
-    μ-loop
-    returns
-    sub-if2
-    returns-2
-    loop-holds
-    add-next-column
-    shared-slice-read-next-column
-    next-column-requires
-    enum-known-next
-    enum-told
-    returns-3
-    add-i
-    loop-less
-    loop-again
-    add-last
-    shared-slice-read-last
-    returns-4
-    returns-5
-    mul-t17
-    cast-t18
-    add-t19
-    returns-6)
+    tie.close (tie.spec Inv-loop μ-loop returns sub-if2 returns-2 loop-holds add-next-column shared-slice-read-next-column
+    next-column-requires enum-known-next enum-told returns-3 add-i loop-less loop-again add-last shared-slice-read-last returns-4 returns-5
+    mul-t17 cast-t18 add-t19 returns-6)

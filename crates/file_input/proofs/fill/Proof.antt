@@ -63,19 +63,5 @@ returns-3 c = search needs
 
 pub fill-spec : {M : Type 1} → statement M
 fill-spec =
-    tie.close
-    (tie.spec
-    Inv-loop
-    μ-loop
-    loop-holds
-    read-once-requires
-    enum-known-next
-    enum-told
-    same-length
-    returns
-    same-length-2
-    returns-2
-    loop-less
-    loop-again
-    same-length-3
-    returns-3)
+    tie.close (tie.spec Inv-loop μ-loop loop-holds read-once-requires enum-known-next enum-told same-length returns same-length-2 returns-2
+    loop-less loop-again same-length-3 returns-3)

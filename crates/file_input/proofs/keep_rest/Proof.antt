@@ -51,17 +51,5 @@ returns c =
 
 pub keep-rest-spec : {M : Type 1} → statement M
 keep-rest-spec =
-    tie.close
-    (tie.spec
-    Inv-loop
-    μ-loop
-    sub-n
-    loop-holds
-    add-buf
-    slice-read-buf
-    slice-write-buf
-    add-i
-    loop-less
-    loop-again
-    same-length
+    tie.close (tie.spec Inv-loop μ-loop sub-n loop-holds add-buf slice-read-buf slice-write-buf add-i loop-less loop-again same-length
     returns)

@@ -50,18 +50,5 @@ returns-2 c =
 
 pub read-once-spec : {M : Type 1} → statement M
 read-once-spec =
-    tie.close
-    (tie.spec
-    sub-read
-    part-read-start
-    part-read-end
-    read-requires
-    same-length
-    returns
-    sub-count
-    part-count-start
-    part-count-end
-    count-requires
-    add-t7
-    same-length-2
-    returns-2)
+    tie.close (tie.spec sub-read part-read-start part-read-end read-requires same-length returns sub-count part-count-start part-count-end
+    count-requires add-t7 same-length-2 returns-2)

@@ -156,35 +156,6 @@ returns-7 c =
 
 pub check-at-spec : {M : Type 1} → statement M
 check-at-spec =
-    tie.close
-    (tie.spec
-    read-first-line-requires
-    enum-known-first
-    enum-told
-    returns
-    cast-v
-    cast-n
-    cast-l
-    returns-2
-    returns-3
-    returns-4
-    add-check-tables
-    check-tables-requires
-    returns-5
-    add-count
-    mul-count
-    add-count-2
-    mul-count-2
-    add-count-3
-    mul-count-3
-    add-count-4
-    mul-count-4
-    add-count-5
-    check-draws-requires
-    enum-known-draws
-    enum-told-2
-    returns-6
-    add-t11
-    mul-t19
-    add-t18
-    returns-7)
+    tie.close (tie.spec read-first-line-requires enum-known-first enum-told returns cast-v cast-n cast-l returns-2 returns-3 returns-4
+    add-check-tables check-tables-requires returns-5 add-count mul-count add-count-2 mul-count-2 add-count-3 mul-count-3 add-count-4
+    mul-count-4 add-count-5 check-draws-requires enum-known-draws enum-told-2 returns-6 add-t11 mul-t19 add-t18 returns-7)

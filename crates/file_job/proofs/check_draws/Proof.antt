@@ -48,15 +48,5 @@ returns-5 c =
 
 pub check-draws-spec : {M : Type 1} → statement M
 check-draws-spec =
-    tie.close
-    (tie.spec
-    check-line-requires
-    returns
-    number-at-requires
-    cast-count
-    returns-2
-    returns-3
-    add-check-lines
-    check-lines-requires
-    returns-4
-    returns-5)
+    tie.close (tie.spec check-line-requires returns number-at-requires cast-count returns-2 returns-3 add-check-lines check-lines-requires
+    returns-4 returns-5)

@@ -58,16 +58,5 @@ returns-4 c =
 
 pub check-tables-spec : {M : Type 1} → statement M
 check-tables-spec =
-    tie.close
-    (tie.spec
-    check-lines-requires
-    returns
-    mul-stops
-    add-stops
-    check-lines-requires-2
-    returns-2
-    mul-distances
-    add-distances
-    check-lines-requires-3
-    returns-3
-    returns-4)
+    tie.close (tie.spec check-lines-requires returns mul-stops add-stops check-lines-requires-2 returns-2 mul-distances add-distances
+    check-lines-requires-3 returns-3 returns-4)

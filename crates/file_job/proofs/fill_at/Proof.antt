@@ -80,26 +80,6 @@ returns c =
 
 pub fill-at-spec : {M : Type 1} → statement M
 fill-at-spec =
-    tie.close
-    (tie.spec
-    cast-l
-    add-second
-    mul-second
-    add-second-2
-    mul-third
-    add-third
-    mul-fourth
-    add-fourth
-    mul-fourth-2
-    add-fourth-2
-    add-fourth-3
-    add-fill-lines
-    fill-lines-requires
-    fill-lines-requires-2
-    fill-lines-requires-3
-    fill-lines-requires-4
-    same-length
-    same-length-2
-    same-length-3
-    same-length-4
-    returns)
+    tie.close (tie.spec cast-l add-second mul-second add-second-2 mul-third add-third mul-fourth add-fourth mul-fourth-2 add-fourth-2
+    add-fourth-3 add-fill-lines fill-lines-requires fill-lines-requires-2 fill-lines-requires-3 fill-lines-requires-4 same-length
+    same-length-2 same-length-3 same-length-4 returns)

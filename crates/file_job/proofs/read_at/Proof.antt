@@ -43,15 +43,5 @@ returns-2 c =
 
 pub read-at-spec : {M : Type 1} → statement M
 read-at-spec =
-    tie.close
-    (tie.spec
-    check-at-requires
-    enum-known-h
-    enum-told
-    returns
-    fill-at-requires
-    same-length
-    same-length-2
-    same-length-3
-    same-length-4
-    returns-2)
+    tie.close (tie.spec check-at-requires enum-known-h enum-told returns fill-at-requires same-length same-length-2 same-length-3
+    same-length-4 returns-2)

@@ -50,16 +50,5 @@ returns-3 c =
 
 pub read-file-spec : {M : Type 1} → statement M
 read-file-spec =
-    tie.close
-    (tie.spec
-    check-at-requires
-    enum-known-h
-    enum-told
-    returns
-    returns-2
-    fill-at-requires
-    same-length
-    same-length-2
-    same-length-3
-    same-length-4
-    returns-3)
+    tie.close (tie.spec check-at-requires enum-known-h enum-told returns returns-2 fill-at-requires same-length same-length-2 same-length-3
+    same-length-4 returns-3)

@@ -114,32 +114,7 @@ returns-6 c =
 
 pub read-first-line-spec : {M : Type 1} → statement M
 read-first-line-spec =
-    tie.close
-    (tie.spec
-    returns
-    sub-if2
-    returns-2
-    check-fields-requires
-    returns-3
-    add-read-field
-    read-field-requires
-    enum-known-missed
-    enum-told
-    returns-4
-    add-check-line
-    check-line-requires
-    returns-5
-    number-at-requires
-    add-number-at
-    number-at-requires-2
-    add-number-at-2
-    number-at-requires-3
-    add-number-at-3
-    number-at-requires-4
-    add-number-at-4
-    number-at-requires-5
-    add-number-at-5
-    number-at-requires-6
-    add-number-at-6
-    number-at-requires-7
-    returns-6)
+    tie.close (tie.spec returns sub-if2 returns-2 check-fields-requires returns-3 add-read-field read-field-requires enum-known-missed
+    enum-told returns-4 add-check-line check-line-requires returns-5 number-at-requires add-number-at number-at-requires-2 add-number-at-2
+    number-at-requires-3 add-number-at-3 number-at-requires-4 add-number-at-4 number-at-requires-5 add-number-at-5 number-at-requires-6
+    add-number-at-6 number-at-requires-7 returns-6)

@@ -65,18 +65,5 @@ returns-3 c =
 
 pub check-fields-spec : {M : Type 1} → statement M
 check-fields-spec =
-    tie.close
-    (tie.spec
-    Inv-loop
-    μ-loop
-    loop-holds
-    read-field-requires
-    enum-known-n
-    enum-told
-    returns
-    returns-2
-    add-next
-    add-i
-    loop-less
-    loop-again
-    returns-3)
+    tie.close (tie.spec Inv-loop μ-loop loop-holds read-field-requires enum-known-n enum-told returns returns-2 add-next add-i loop-less
+    loop-again returns-3)

@@ -35,13 +35,4 @@ returns-4 c =
 
 pub check-line-spec : {M : Type 1} → statement M
 check-line-spec =
-    tie.close
-    (tie.spec
-    check-fields-requires
-    returns
-    mul-end
-    add-end
-    returns-2
-    shared-slice-read-if3
-    returns-3
-    returns-4)
+    tie.close (tie.spec check-fields-requires returns mul-end add-end returns-2 shared-slice-read-if3 returns-3 returns-4)

@@ -60,17 +60,5 @@ returns-2 c =
 
 pub check-lines-spec : {M : Type 1} → statement M
 check-lines-spec =
-    tie.close
-    (tie.spec
-    Inv-loop
-    μ-loop
-    loop-holds
-    check-line-requires
-    returns
-    mul-next
-    add-next
-    add-next-2
-    add-i
-    loop-less
-    loop-again
+    tie.close (tie.spec Inv-loop μ-loop loop-holds check-line-requires returns mul-next add-next add-next-2 add-i loop-less loop-again
     returns-2)

@@ -72,21 +72,5 @@ returns c =
 
 pub fill-lines-spec : {M : Type 1} → statement M
 fill-lines-spec =
-    tie.close
-    (tie.spec
-    Inv-loop
-    μ-loop
-    mul-total
-    loop-holds
-    mul-number-at
-    div-number-at
-    add-number-at
-    add-number-at-2
-    number-at-requires
-    mul-list
-    slice-write-list
-    add-i
-    loop-less
-    loop-again
-    same-length
-    returns)
+    tie.close (tie.spec Inv-loop μ-loop mul-total loop-holds mul-number-at div-number-at add-number-at add-number-at-2 number-at-requires
+    mul-list slice-write-list add-i loop-less loop-again same-length returns)

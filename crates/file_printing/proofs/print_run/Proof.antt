@@ -30,12 +30,4 @@ returns c =
 
 pub print-run-spec : {M : Type 1} → statement M
 print-run-spec =
-    tie.close
-    (tie.spec
-    put-stops-requires
-    mul-put-totals
-    put-totals-requires
-    mul-result
-    add-result
-    same-length
-    returns)
+    tie.close (tie.spec put-stops-requires mul-put-totals put-totals-requires mul-result add-result same-length returns)

@@ -34,14 +34,5 @@ returns c = dashed _ _ (c .pre)
 
 pub put-dash-spec : {M : Type 1} → statement M
 put-dash-spec =
-    tie.close
-    (tie.spec
-    slice-write-out
-    add-out
-    slice-write-out-2
-    add-out-2
-    slice-write-out-3
-    add-out-3
-    slice-write-out-4
-    same-length
+    tie.close (tie.spec slice-write-out add-out slice-write-out-2 add-out-2 slice-write-out-3 add-out-3 slice-write-out-4 same-length
     returns)

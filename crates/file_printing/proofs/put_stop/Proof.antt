@@ -31,12 +31,4 @@ returns c =
 
 pub put-stop-spec : {M : Type 1} → statement M
 put-stop-spec =
-    tie.close
-    (tie.spec
-    put-number-requires
-    add-put-vehicle
-    put-vehicle-requires
-    add-out
-    slice-write-out
-    same-length
-    returns)
+    tie.close (tie.spec put-number-requires add-put-vehicle put-vehicle-requires add-out slice-write-out same-length returns)

@@ -54,16 +54,5 @@ returns c =
 
 pub put-stops-spec : {M : Type 1} → statement M
 put-stops-spec =
-    tie.close
-    (tie.spec
-    Inv-loop
-    μ-loop
-    loop-holds
-    mul-put-stop
-    cast-put-stop
-    put-stop-requires
-    add-i
-    loop-less
-    loop-again
-    same-length
+    tie.close (tie.spec Inv-loop μ-loop loop-holds mul-put-stop cast-put-stop put-stop-requires add-i loop-less loop-again same-length
     returns)

@@ -73,23 +73,6 @@ returns c =
 
 pub put-totals-spec : {M : Type 1} → statement M
 put-totals-spec =
-    tie.close
-    (tie.spec
-    to-whole-requires
-    put-number-requires
-    add-put-number
-    to-whole-requires-2
-    put-number-requires-2
-    add-put-number-2
-    cast-put-number
-    put-number-requires-3
-    add-put-number-3
-    cast-put-number-2
-    put-number-requires-4
-    add-put-number-4
-    flag-requires
-    put-number-requires-5
-    add-out
-    slice-write-out
-    same-length
-    returns)
+    tie.close (tie.spec to-whole-requires put-number-requires add-put-number to-whole-requires-2 put-number-requires-2 add-put-number-2
+    cast-put-number put-number-requires-3 add-put-number-3 cast-put-number-2 put-number-requires-4 add-put-number-4 flag-requires
+    put-number-requires-5 add-out slice-write-out same-length returns)

@@ -49,14 +49,5 @@ returns-2 c =
 
 pub put-vehicle-spec : {M : Type 1} → statement M
 put-vehicle-spec =
-    tie.close
-    (tie.spec
-    find-requires
-    enum-known-place
-    put-number-requires
-    enum-told
-    put-dash-requires
-    same-length
-    returns
-    same-length-2
+    tie.close (tie.spec find-requires enum-known-place put-number-requires enum-told put-dash-requires same-length returns same-length-2
     returns-2)

@@ -41,15 +41,5 @@ returns c =
 
 pub empty-spec : {M : Type 1} → statement M
 empty-spec =
-    tie.close
-    (tie.spec
-    slice-relend-prefix-fill
-    slice-aggregate-fill
-    fill-requires
-    mul-fill
-    sub-fill
-    part-fill-start
-    part-fill-end
-    fill-requires-2
-    same-length
-    returns)
+    tie.close (tie.spec slice-relend-prefix-fill slice-aggregate-fill fill-requires mul-fill sub-fill part-fill-start part-fill-end
+    fill-requires-2 same-length returns)

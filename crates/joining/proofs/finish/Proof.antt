@@ -33,13 +33,4 @@ returns c =
 
 pub finish-spec : {M : Type 1} → statement M
 finish-spec =
-    tie.close
-    (tie.spec
-    paste-requires
-    mul-fill
-    sub-fill
-    part-fill-start
-    part-fill-end
-    fill-requires
-    same-length
-    returns)
+    tie.close (tie.spec paste-requires mul-fill sub-fill part-fill-start part-fill-end fill-requires same-length returns)

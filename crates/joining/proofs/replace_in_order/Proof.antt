@@ -87,20 +87,6 @@ returns c =
 
 pub replace-in-order-spec : {M : Type 1} → statement M
 replace-in-order-spec =
-    tie.close
-    (tie.spec
-    slice-aggregate-paste
-    paste-requires
-    cast-new
-    mul-new
-    slice-write-new
-    cast-new-2
-    mul-new-2
-    slice-write-new-2
-    mul-write-stops-two
-    sub-write-stops-two
-    part-write-stops-two-start
-    part-write-stops-two-end
-    write-stops-two-requires
-    same-length
+    tie.close (tie.spec slice-aggregate-paste paste-requires cast-new mul-new slice-write-new cast-new-2 mul-new-2 slice-write-new-2
+    mul-write-stops-two sub-write-stops-two part-write-stops-two-start part-write-stops-two-end write-stops-two-requires same-length
     returns)

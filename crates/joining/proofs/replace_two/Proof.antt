@@ -39,11 +39,4 @@ returns-2 c =
 
 pub replace-two-spec : {M : Type 1} → statement M
 replace-two-spec =
-    tie.close
-    (tie.spec
-    replace-in-order-requires
-    replace-in-order-requires-2
-    same-length
-    returns
-    same-length-2
-    returns-2)
+    tie.close (tie.spec replace-in-order-requires replace-in-order-requires-2 same-length returns same-length-2 returns-2)

@@ -104,31 +104,8 @@ returns c =
 
 pub write-stops-two-spec : {M : Type 1} → statement M
 write-stops-two-spec =
-    tie.close
-    (tie.spec
-    offset-requires
-    mul-end-a
-    shared-slice-read-end-a
-    cast-end-a
-    add-end-a
-    offset-requires-2
-    mul-end-b
-    shared-slice-read-end-b
-    cast-end-b
-    add-end-b
-    offset-requires-3
-    mul-write-around-two
-    sub-write-around-two
-    part-write-around-two-start
-    part-write-around-two-end
-    mul-write-around-two-2
-    sub-write-around-two-2
-    part-write-around-two-start-2
-    part-write-around-two-end-2
-    mul-write-around-two-3
-    sub-write-around-two-3
-    part-write-around-two-start-3
-    part-write-around-two-end-3
-    write-around-two-requires
-    same-length
-    returns)
+    tie.close (tie.spec offset-requires mul-end-a shared-slice-read-end-a cast-end-a add-end-a offset-requires-2 mul-end-b
+    shared-slice-read-end-b cast-end-b add-end-b offset-requires-3 mul-write-around-two sub-write-around-two part-write-around-two-start
+    part-write-around-two-end mul-write-around-two-2 sub-write-around-two-2 part-write-around-two-start-2 part-write-around-two-end-2
+    mul-write-around-two-3 sub-write-around-two-3 part-write-around-two-start-3 part-write-around-two-end-3 write-around-two-requires
+    same-length returns)

@@ -49,16 +49,5 @@ returns c = search needs
 
 pub check-rows-spec : {M : Type 1} → statement M
 check-rows-spec =
-    tie.close
-    (tie.spec
-    first-requires
-    second-requires
-    array-read-expect
-    expect-requires
-    array-read-expect-2
-    expect-requires-2
-    array-read-expect-3
-    expect-requires-3
-    array-read-expect-4
-    expect-requires-4
-    returns)
+    tie.close (tie.spec first-requires second-requires array-read-expect expect-requires array-read-expect-2 expect-requires-2
+    array-read-expect-3 expect-requires-3 array-read-expect-4 expect-requires-4 returns)

@@ -47,11 +47,4 @@ returns c =
 
 pub count-spec : {M : Type 1} → statement M
 count-spec =
-    tie.close
-    (tie.spec
-    add-m
-    slice-aggregate-arrange
-    array-borrow-prefix-best
-    slice-aggregate-arrange-2
-    arrange-requires
-    returns)
+    tie.close (tie.spec add-m slice-aggregate-arrange array-borrow-prefix-best slice-aggregate-arrange-2 arrange-requires returns)

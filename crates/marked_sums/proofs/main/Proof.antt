@@ -72,25 +72,7 @@ returns c = search needs
 
 pub main-spec : {M : Type 1} → statement M
 main-spec =
-    tie.close
-    (tie.spec
-    slice-aggregate-count
-    slice-aggregate-count-2
-    count-requires
-    print-decimal-requires
-    slice-aggregate-write-all
-    write-all-requires
-    slice-aggregate-count-3
-    slice-aggregate-count-4
-    count-requires-2
-    print-decimal-requires-2
-    slice-aggregate-write-all-2
-    write-all-requires-2
-    slice-aggregate-count-5
-    slice-aggregate-count-6
-    count-requires-3
-    print-decimal-requires-3
-    slice-aggregate-write-all-3
-    write-all-requires-3
-    check-rows-requires
-    returns)
+    tie.close (tie.spec slice-aggregate-count slice-aggregate-count-2 count-requires print-decimal-requires slice-aggregate-write-all
+    write-all-requires slice-aggregate-count-3 slice-aggregate-count-4 count-requires-2 print-decimal-requires-2 slice-aggregate-write-all-2
+    write-all-requires-2 slice-aggregate-count-5 slice-aggregate-count-6 count-requires-3 print-decimal-requires-3
+    slice-aggregate-write-all-3 write-all-requires-3 check-rows-requires returns)

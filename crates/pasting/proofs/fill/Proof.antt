@@ -44,15 +44,4 @@ returns c = filled (c .before .before .args .to .now) (c .before .loop .to) (c .
 
 pub fill-spec : {M : Type 1} → statement M
 fill-spec =
-    tie.close
-    (tie.spec
-    Inv-loop
-    μ-loop
-    loop-holds
-    mul-to
-    slice-write-to
-    add-i
-    loop-less
-    loop-again
-    same-length
-    returns)
+    tie.close (tie.spec Inv-loop μ-loop loop-holds mul-to slice-write-to add-i loop-less loop-again same-length returns)

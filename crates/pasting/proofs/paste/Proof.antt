@@ -61,19 +61,5 @@ returns c =
 
 pub paste-spec : {M : Type 1} → statement M
 paste-spec =
-    tie.close
-    (tie.spec
-    Inv-loop
-    μ-loop
-    loop-holds
-    mul-to
-    shared-slice-read-to
-    add-to
-    mul-to-2
-    slice-write-to
-    add-i
-    loop-less
-    loop-again
-    add-result
-    same-length
-    returns)
+    tie.close (tie.spec Inv-loop μ-loop loop-holds mul-to shared-slice-read-to add-to mul-to-2 slice-write-to add-i loop-less loop-again
+    add-result same-length returns)

@@ -70,21 +70,5 @@ returns c =
 
 pub paste-reversed-spec : {M : Type 1} → statement M
 paste-reversed-spec =
-    tie.close
-    (tie.spec
-    Inv-loop
-    μ-loop
-    loop-holds
-    sub-to
-    sub-to-2
-    mul-to
-    shared-slice-read-to
-    add-to
-    mul-to-2
-    slice-write-to
-    add-i
-    loop-less
-    loop-again
-    add-result
-    same-length
-    returns)
+    tie.close (tie.spec Inv-loop μ-loop loop-holds sub-to sub-to-2 mul-to shared-slice-read-to add-to mul-to-2 slice-write-to add-i
+    loop-less loop-again add-result same-length returns)

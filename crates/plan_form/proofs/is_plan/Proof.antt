@@ -60,20 +60,5 @@ returns-3 c =
 
 pub is-plan-spec : {M : Type 1} → statement M
 is-plan-spec =
-    tie.close
-    (tie.spec
-    sum-lengths-requires
-    returns
-    add-mid
-    mul-stops-once
-    sub-stops-once
-    part-stops-once-start
-    part-stops-once-end
-    stops-once-requires
-    mul-all-unused
-    sub-all-unused
-    part-all-unused-start
-    part-all-unused-end
-    all-unused-requires
-    returns-2
-    returns-3)
+    tie.close (tie.spec sum-lengths-requires returns add-mid mul-stops-once sub-stops-once part-stops-once-start part-stops-once-end
+    stops-once-requires mul-all-unused sub-all-unused part-all-unused-start part-all-unused-end all-unused-requires returns-2 returns-3)

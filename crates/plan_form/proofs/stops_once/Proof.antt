@@ -69,19 +69,5 @@ returns-3 c =
 
 pub stops-once-spec : {M : Type 1} → statement M
 stops-once-spec =
-    tie.close
-    (tie.spec
-    Inv-loop
-    μ-loop
-    loop-holds
-    mul-stop
-    shared-slice-read-stop
-    cast-x
-    returns
-    contains-requires
-    returns-2
-    with-requires
-    add-i
-    loop-less
-    loop-again
-    returns-3)
+    tie.close (tie.spec Inv-loop μ-loop loop-holds mul-stop shared-slice-read-stop cast-x returns contains-requires returns-2 with-requires
+    add-i loop-less loop-again returns-3)

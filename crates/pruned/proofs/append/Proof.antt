@@ -88,26 +88,6 @@ returns c =
 
 pub append-spec : {M : Type 1} → statement M
 append-spec =
-    tie.close
-    (tie.spec
-    add-offset
-    offset-requires
-    add-last
-    sub-last
-    slice-aggregate-paste
-    paste-requires
-    add-paste
-    mul-paste
-    sub-paste
-    part-paste-start
-    part-paste-end
-    paste-requires-2
-    mul-next
-    shared-slice-read-next
-    add-next
-    mul-next-2
-    slice-write-next
-    mul-next-3
-    slice-write-next-2
-    same-length
-    returns)
+    tie.close (tie.spec add-offset offset-requires add-last sub-last slice-aggregate-paste paste-requires add-paste mul-paste sub-paste
+    part-paste-start part-paste-end paste-requires-2 mul-next shared-slice-read-next add-next mul-next-2 slice-write-next mul-next-3
+    slice-write-next-2 same-length returns)

@@ -87,16 +87,5 @@ returns-4 c =
 
 pub prefers-spec : {M : Type 1} → statement M
 prefers-spec =
-    tie.close
-    (tie.spec
-    cheaper-requires
-    returns
-    same-requires
-    returns-2
-    placed-set-requires
-    size-requires
-    placed-set-requires-2
-    size-requires-2
-    returns-3
-    lower-requires
-    returns-4)
+    tie.close (tie.spec cheaper-requires returns same-requires returns-2 placed-set-requires size-requires placed-set-requires-2
+    size-requires-2 returns-3 lower-requires returns-4)

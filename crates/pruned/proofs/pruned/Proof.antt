@@ -89,19 +89,5 @@ returns c = λ J F.
 
 pub pruned-spec : {M : Type 1} → statement M
 pruned-spec =
-    tie.close
-    (tie.spec
-    empty-requires
-    cost-requires
-    add-m
-    array-borrow-prefix-start
-    slice-aggregate-copy-plan
-    copy-plan-requires
-    cast-below
-    below-requires
-    of-u64-requires
-    array-share-prefix-start
-    slice-aggregate-reach
-    reach-requires
-    same-length
-    returns)
+    tie.close (tie.spec empty-requires cost-requires add-m array-borrow-prefix-start slice-aggregate-copy-plan copy-plan-requires cast-below
+    below-requires of-u64-requires array-share-prefix-start slice-aggregate-reach reach-requires same-length returns)

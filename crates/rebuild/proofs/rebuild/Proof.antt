@@ -60,13 +60,5 @@ returns c =
 
 pub rebuild-spec : {M : Type 1} → statement M
 rebuild-spec =
-    tie.close
-    (tie.spec
-    slice-aggregate-regions-of
-    regions-of-requires
-    mul-end
-    array-share-prefix-regions
-    slice-aggregate-rearrange
-    rearrange-requires
-    same-length
-    returns)
+    tie.close (tie.spec slice-aggregate-regions-of regions-of-requires mul-end array-share-prefix-regions slice-aggregate-rearrange
+    rearrange-requires same-length returns)

@@ -39,13 +39,5 @@ returns c = search needs
 
 pub arrange-spec : {M : Type 1} → statement M
 arrange-spec =
-    tie.close
-    (tie.spec
-    add-m
-    slice-aggregate-visit
-    slice-aggregate-visit-2
-    array-borrow-prefix-scratch
-    slice-aggregate-visit-3
-    visit-requires
-    same-length
-    returns)
+    tie.close (tie.spec add-m slice-aggregate-visit slice-aggregate-visit-2 array-borrow-prefix-scratch slice-aggregate-visit-3
+    visit-requires same-length returns)

@@ -43,13 +43,5 @@ returns c =
 
 pub begin-spec : {M : Type 1} → statement M
 begin-spec =
-    tie.close
-    (tie.spec
-    survey-requires
-    slice-aggregate-compose
-    compose-requires
-    driving-cost-requires
-    open-requires
-    same-length
-    same-length-2
-    returns)
+    tie.close (tie.spec survey-requires slice-aggregate-compose compose-requires driving-cost-requires open-requires same-length
+    same-length-2 returns)

@@ -68,14 +68,5 @@ returns c =
 
 pub rearrange-spec : {M : Type 1} → statement M
 rearrange-spec =
-    tie.close
-    (tie.spec
-    add-m
-    array-borrow-prefix-best
-    slice-aggregate-arrange
-    arrange-requires
-    array-share-prefix-best
-    slice-aggregate-copy-plan
-    copy-plan-requires
-    same-length
-    returns)
+    tie.close (tie.spec add-m array-borrow-prefix-best slice-aggregate-arrange arrange-requires array-share-prefix-best
+    slice-aggregate-copy-plan copy-plan-requires same-length returns)

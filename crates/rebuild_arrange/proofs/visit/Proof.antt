@@ -72,19 +72,5 @@ returns-2 c =
 
 pub visit-spec : {M : Type 1} → statement M
 visit-spec =
-    tie.close
-    (tie.spec
-    copy-plan-requires
-    placed-set-requires
-    size-requires
-    cost-requires
-    same-length
-    returns
-    begin-requires
-    drain-requires
-    walk-requires
-    same-length-2
-    same-length-3
-    same-length-4
-    same-length-5
-    returns-2)
+    tie.close (tie.spec copy-plan-requires placed-set-requires size-requires cost-requires same-length returns begin-requires drain-requires
+    walk-requires same-length-2 same-length-3 same-length-4 same-length-5 returns-2)

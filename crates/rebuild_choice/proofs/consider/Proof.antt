@@ -48,14 +48,5 @@ returns-2 c = search needs
 
 pub consider-spec : {M : Type 1} → statement M
 consider-spec =
-    tie.close
-    (tie.spec
-    behind-requires
-    add-t13
-    returns
-    add-m
-    array-borrow-prefix-other
-    slice-aggregate-contest
-    contest-requires
-    same-length
+    tie.close (tie.spec behind-requires add-t13 returns add-m array-borrow-prefix-other slice-aggregate-contest contest-requires same-length
     returns-2)

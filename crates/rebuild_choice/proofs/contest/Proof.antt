@@ -50,15 +50,5 @@ returns-2 c =
 
 pub contest-spec : {M : Type 1} → statement M
 contest-spec =
-    tie.close
-    (tie.spec
-    add-count
-    compose-requires
-    ahead-requires
-    copy-plan-requires
-    same-length
-    same-length-2
-    returns
-    same-length-3
-    same-length-4
-    returns-2)
+    tie.close (tie.spec add-count compose-requires ahead-requires copy-plan-requires same-length same-length-2 returns same-length-3
+    same-length-4 returns-2)

@@ -31,11 +31,4 @@ returns c =
 
 pub weigh-spec : {M : Type 1} → statement M
 weigh-spec =
-    tie.close
-    (tie.spec
-    close-requires
-    sub-placed
-    cast-missed-cost
-    sub-missed-cost
-    missed-cost-requires
-    returns)
+    tie.close (tie.spec close-requires sub-placed cast-missed-cost sub-missed-cost missed-cost-requires returns)

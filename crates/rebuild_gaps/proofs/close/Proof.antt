@@ -50,19 +50,5 @@ returns c =
 
 pub close-spec : {M : Type 1} → statement M
 close-spec =
-    tie.close
-    (tie.spec
-    mul-after
-    add-after
-    mul-after-2
-    shared-slice-read-after
-    cast-after
-    leg-requires
-    add-length
-    mul-length
-    add-length-2
-    mul-length-2
-    shared-slice-read-length
-    add-length-3
-    price-requires
-    returns)
+    tie.close (tie.spec mul-after add-after mul-after-2 shared-slice-read-after cast-after leg-requires add-length mul-length add-length-2
+    mul-length-2 shared-slice-read-length add-length-3 price-requires returns)

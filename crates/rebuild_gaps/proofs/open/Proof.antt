@@ -44,15 +44,5 @@ returns c =
 
 pub open-spec : {M : Type 1} → statement M
 open-spec =
-    tie.close
-    (tie.spec
-    mul-length
-    add-length
-    mul-length-2
-    shared-slice-read-length
-    mul-last
-    mul-last-2
-    shared-slice-read-last
-    cast-last
-    close-requires
-    returns)
+    tie.close (tie.spec mul-length add-length mul-length-2 shared-slice-read-length mul-last mul-last-2 shared-slice-read-last cast-last
+    close-requires returns)

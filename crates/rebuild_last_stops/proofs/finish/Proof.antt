@@ -81,24 +81,5 @@ returns-2 c =
 
 pub finish-spec : {M : Type 1} → statement M
 finish-spec =
-    tie.close
-    (tie.spec
-    Inv-loop
-    μ-loop
-    size-requires
-    slice-reshare-prefix-meet
-    slice-aggregate-meet
-    meet-requires
-    same-length
-    same-length-2
-    returns
-    loop-holds
-    mul-loop
-    resume-requires
-    place-last-requires
-    add-gap
-    loop-less
-    loop-again
-    same-length-3
-    same-length-4
-    returns-2)
+    tie.close (tie.spec Inv-loop μ-loop size-requires slice-reshare-prefix-meet slice-aggregate-meet meet-requires same-length same-length-2
+    returns loop-holds mul-loop resume-requires place-last-requires add-gap loop-less loop-again same-length-3 same-length-4 returns-2)

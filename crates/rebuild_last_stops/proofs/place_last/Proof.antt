@@ -93,25 +93,6 @@ returns c =
 
 pub place-last-spec : {M : Type 1} → statement M
 place-last-spec =
-    tie.close
-    (tie.spec
-    lowest-requires
-    without-requires
-    mul-was
-    slice-read-was
-    cast-codes
-    mul-codes
-    add-codes
-    mul-codes-2
-    slice-write-codes
-    step-requires
-    add-e
-    size-requires
-    slice-reshare-prefix-meet
-    slice-aggregate-meet
-    meet-requires
-    mul-codes-3
-    slice-write-codes-2
-    same-length
-    same-length-2
-    returns)
+    tie.close (tie.spec lowest-requires without-requires mul-was slice-read-was cast-codes mul-codes add-codes mul-codes-2 slice-write-codes
+    step-requires add-e size-requires slice-reshare-prefix-meet slice-aggregate-meet meet-requires mul-codes-3 slice-write-codes-2
+    same-length same-length-2 returns)

@@ -117,28 +117,6 @@ returns c =
 
 pub spread-two-spec : {M : Type 1} → statement M
 spread-two-spec =
-    tie.close
-    (tie.spec
-    Inv-loop
-    μ-loop
-    loop-holds
-    lowest-requires
-    without-requires
-    mul-was
-    slice-read-was
-    cast-codes
-    mul-codes
-    add-codes
-    mul-codes-2
-    slice-write-codes
-    step-requires
-    without-requires-2
-    add-e
-    finish-requires
-    mul-codes-3
-    slice-write-codes-2
-    loop-less
-    loop-again
-    same-length
-    same-length-2
-    returns)
+    tie.close (tie.spec Inv-loop μ-loop loop-holds lowest-requires without-requires mul-was slice-read-was cast-codes mul-codes add-codes
+    mul-codes-2 slice-write-codes step-requires without-requires-2 add-e finish-requires mul-codes-3 slice-write-codes-2 loop-less
+    loop-again same-length same-length-2 returns)

@@ -69,21 +69,5 @@ returns c =
 
 pub walk-two-spec : {M : Type 1} → statement M
 walk-two-spec =
-    tie.close
-    (tie.spec
-    Inv-loop
-    μ-loop
-    size-requires
-    slice-reshare-prefix-meet
-    slice-aggregate-meet
-    meet-requires
-    loop-holds
-    mul-loop
-    resume-requires
-    spread-two-requires
-    add-g
-    loop-less
-    loop-again
-    same-length
-    same-length-2
-    returns)
+    tie.close (tie.spec Inv-loop μ-loop size-requires slice-reshare-prefix-meet slice-aggregate-meet meet-requires loop-holds mul-loop
+    resume-requires spread-two-requires add-g loop-less loop-again same-length same-length-2 returns)

@@ -78,22 +78,5 @@ returns c = kept-all (c .before .loop .inv) (c .loop-test .left)
 
 pub keep-picks-spec : {M : Type 1} → statement M
 keep-picks-spec =
-    tie.close
-    (tie.spec
-    Inv-loop
-    μ-loop
-    loop-holds
-    mul-pick
-    shared-slice-read-pick
-    vehicle-of-requires
-    cast-vehicle
-    contains-requires
-    with-requires
-    mul-kept
-    slice-write-kept
-    add-p
-    add-i
-    loop-less
-    loop-again
-    same-length
-    returns)
+    tie.close (tie.spec Inv-loop μ-loop loop-holds mul-pick shared-slice-read-pick vehicle-of-requires cast-vehicle contains-requires
+    with-requires mul-kept slice-write-kept add-p add-i loop-less loop-again same-length returns)

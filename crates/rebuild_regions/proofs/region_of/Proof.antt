@@ -109,30 +109,6 @@ returns-2 c =
 
 pub region-of-spec : {M : Type 1} → statement M
 region-of-spec =
-    tie.close
-    (tie.spec
-    find-requires
-    enum-known-place
-    enum-told
-    returns
-    cast-out
-    mul-out
-    mul-out-2
-    slice-write-out
-    region-from-requires
-    cast-out-2
-    mul-out-3
-    add-out
-    mul-out-4
-    slice-write-out-2
-    mul-region-to
-    shared-slice-read-region-to
-    cast-region-to
-    region-to-requires
-    cast-out-3
-    mul-out-5
-    add-out-2
-    mul-out-6
-    slice-write-out-3
-    same-length
-    returns-2)
+    tie.close (tie.spec find-requires enum-known-place enum-told returns cast-out mul-out mul-out-2 slice-write-out region-from-requires
+    cast-out-2 mul-out-3 add-out mul-out-4 slice-write-out-2 mul-region-to shared-slice-read-region-to cast-region-to region-to-requires
+    cast-out-3 mul-out-5 add-out-2 mul-out-6 slice-write-out-3 same-length returns-2)

@@ -94,21 +94,5 @@ returns-2 c =
 
 pub regions-of-spec : {M : Type 1} → statement M
 regions-of-spec =
-    tie.close
-    (tie.spec
-    Inv-loop
-    μ-loop
-    slice-aggregate-keep-picks
-    keep-picks-requires
-    returns
-    sub-size
-    div-size
-    loop-holds
-    mul-region-of
-    array-read-region-of
-    region-of-requires
-    add-i
-    loop-less
-    loop-again
-    same-length
-    returns-2)
+    tie.close (tie.spec Inv-loop μ-loop slice-aggregate-keep-picks keep-picks-requires returns sub-size div-size loop-holds mul-region-of
+    array-read-region-of region-of-requires add-i loop-less loop-again same-length returns-2)

@@ -60,17 +60,5 @@ returns c =
 
 pub along-spec : {M : Type 1} → statement M
 along-spec =
-    tie.close
-    (tie.spec
-    Inv-loop
-    μ-loop
-    loop-holds
-    mul-next
-    shared-slice-read-next
-    cast-next
-    leg-requires
-    add-sum
-    add-i
-    loop-less
-    loop-again
+    tie.close (tie.spec Inv-loop μ-loop loop-holds mul-next shared-slice-read-next cast-next leg-requires add-sum add-i loop-less loop-again
     returns)

@@ -85,20 +85,5 @@ returns c =
 
 pub drain-spec : {M : Type 1} → statement M
 drain-spec =
-    tie.close
-    (tie.spec
-    Inv-loop
-    μ-loop
-    loop-holds
-    mul-loop
-    region-at-requires
-    route-requires
-    mul-gather
-    sub-gather
-    part-gather-start
-    part-gather-end
-    gather-requires
-    add-q
-    loop-less
-    loop-again
-    returns)
+    tie.close (tie.spec Inv-loop μ-loop loop-holds mul-loop region-at-requires route-requires mul-gather sub-gather part-gather-start
+    part-gather-end gather-requires add-q loop-less loop-again returns)

@@ -79,21 +79,5 @@ returns-2 c =
 
 pub measure-spec : {M : Type 1} → statement M
 measure-spec =
-    tie.close
-    (tie.spec
-    add-own
-    slice-aggregate-along
-    along-requires
-    returns
-    mul-first
-    shared-slice-read-first
-    cast-first
-    add-along
-    mul-along
-    sub-along
-    part-along-start
-    part-along-end
-    along-requires-2
-    leg-requires
-    add-t21
-    returns-2)
+    tie.close (tie.spec add-own slice-aggregate-along along-requires returns mul-first shared-slice-read-first cast-first add-along
+    mul-along sub-along part-along-start part-along-end along-requires-2 leg-requires add-t21 returns-2)

@@ -64,24 +64,5 @@ returns c = let a = c .before .before .args in stored (a .gaps .now) (a .q) (a .
 
 pub store-spec : {M : Type 1} → statement M
 store-spec =
-    tie.close
-    (tie.spec
-    cast-gaps
-    mul-gaps
-    mul-gaps-2
-    slice-write-gaps
-    cast-gaps-2
-    mul-gaps-3
-    add-gaps
-    mul-gaps-4
-    slice-write-gaps-2
-    mul-gaps-5
-    add-gaps-2
-    mul-gaps-6
-    slice-write-gaps-3
-    mul-gaps-7
-    add-gaps-3
-    mul-gaps-8
-    slice-write-gaps-4
-    same-length
-    returns)
+    tie.close (tie.spec cast-gaps mul-gaps mul-gaps-2 slice-write-gaps cast-gaps-2 mul-gaps-3 add-gaps mul-gaps-4 slice-write-gaps-2
+    mul-gaps-5 add-gaps-2 mul-gaps-6 slice-write-gaps-3 mul-gaps-7 add-gaps-3 mul-gaps-8 slice-write-gaps-4 same-length returns)

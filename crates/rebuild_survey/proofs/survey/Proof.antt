@@ -78,18 +78,5 @@ returns c =
 
 pub survey-spec : {M : Type 1} → statement M
 survey-spec =
-    tie.close
-    (tie.spec
-    Inv-loop
-    μ-loop
-    loop-holds
-    mul-loop
-    region-at-requires
-    route-requires
-    measure-requires
-    store-requires
-    add-q
-    loop-less
-    loop-again
-    same-length
-    returns)
+    tie.close (tie.spec Inv-loop μ-loop loop-holds mul-loop region-at-requires route-requires measure-requires store-requires add-q
+    loop-less loop-again same-length returns)

@@ -147,32 +147,6 @@ returns c =
 
 pub compose-spec : {M : Type 1} → statement M
 compose-spec =
-    tie.close
-    (tie.spec
-    Inv-loop
-    μ-loop
-    loop-holds
-    mul-end
-    shared-slice-read-end
-    cast-end
-    add-end
-    region-of-requires
-    mul-paste-route
-    sub-paste-route
-    part-paste-route-start
-    part-paste-route-end
-    paste-route-requires
-    sub-to
-    cast-to
-    mul-to
-    slice-write-to
-    add-i
-    loop-less
-    loop-again
-    mul-fill
-    sub-fill
-    part-fill-start
-    part-fill-end
-    fill-requires
-    same-length
-    returns)
+    tie.close (tie.spec Inv-loop μ-loop loop-holds mul-end shared-slice-read-end cast-end add-end region-of-requires mul-paste-route
+    sub-paste-route part-paste-route-start part-paste-route-end paste-route-requires sub-to cast-to mul-to slice-write-to add-i loop-less
+    loop-again mul-fill sub-fill part-fill-start part-fill-end fill-requires same-length returns)

@@ -70,18 +70,5 @@ returns c =
 
 pub paste-gap-spec : {M : Type 1} → statement M
 paste-gap-spec =
-    tie.close
-    (tie.spec
-    Inv-loop
-    μ-loop
-    loop-holds
-    mul-c
-    shared-slice-read-c
-    mul-to
-    slice-write-to
-    add-end
-    add-i
-    loop-less
-    loop-again
-    same-length
-    returns)
+    tie.close (tie.spec Inv-loop μ-loop loop-holds mul-c shared-slice-read-c mul-to slice-write-to add-end add-i loop-less loop-again
+    same-length returns)

@@ -96,21 +96,5 @@ returns-2 c =
 
 pub paste-route-spec : {M : Type 1} → statement M
 paste-route-spec =
-    tie.close
-    (tie.spec
-    mul-if1
-    region-at-requires
-    slice-aggregate-paste
-    paste-requires
-    cast-paste-gap
-    paste-gap-requires
-    mul-paste
-    sub-paste
-    part-paste-start
-    part-paste-end
-    paste-requires-2
-    same-length
-    returns
-    paste-requires-3
-    same-length-2
-    returns-2)
+    tie.close (tie.spec mul-if1 region-at-requires slice-aggregate-paste paste-requires cast-paste-gap paste-gap-requires mul-paste
+    sub-paste part-paste-start part-paste-end paste-requires-2 same-length returns paste-requires-3 same-length-2 returns-2)

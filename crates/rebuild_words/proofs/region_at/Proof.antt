@@ -51,20 +51,5 @@ returns c = search needs
 
 pub region-at-spec : {M : Type 1} → statement M
 region-at-spec =
-    tie.close
-    (tie.spec
-    mul-vehicle
-    mul-vehicle-2
-    shared-slice-read-vehicle
-    cast-vehicle
-    mul-from
-    add-from
-    mul-from-2
-    shared-slice-read-from
-    cast-from
-    mul-to
-    add-to
-    mul-to-2
-    shared-slice-read-to
-    cast-to
-    returns)
+    tie.close (tie.spec mul-vehicle mul-vehicle-2 shared-slice-read-vehicle cast-vehicle mul-from add-from mul-from-2 shared-slice-read-from
+    cast-from mul-to add-to mul-to-2 shared-slice-read-to cast-to returns)

@@ -74,18 +74,5 @@ returns-2 c =
 
 pub region-of-spec : {M : Type 1} → statement M
 region-of-spec =
-    tie.close
-    (tie.spec
-    Inv-loop
-    μ-loop
-    loop-holds
-    mul-loop
-    mul-if1
-    mul-if1-2
-    shared-slice-read-if1
-    cast-if1
-    returns
-    add-r
-    loop-less
-    loop-again
-    returns-2)
+    tie.close (tie.spec Inv-loop μ-loop loop-holds mul-loop mul-if1 mul-if1-2 shared-slice-read-if1 cast-if1 returns add-r loop-less
+    loop-again returns-2)

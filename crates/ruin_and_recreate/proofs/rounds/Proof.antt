@@ -75,17 +75,5 @@ returns-2 c =
 
 pub rounds-spec : {M : Type 1} → statement M
 rounds-spec =
-    tie.close
-    (tie.spec
-    Inv-loop
-    μ-loop
-    none-requires
-    loop-holds
-    round-requires
-    settled-requires
-    same-length
-    returns
-    loop-less
-    loop-again
-    same-length-2
-    returns-2)
+    tie.close (tie.spec Inv-loop μ-loop none-requires loop-holds round-requires settled-requires same-length returns loop-less loop-again
+    same-length-2 returns-2)

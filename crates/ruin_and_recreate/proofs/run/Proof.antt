@@ -61,16 +61,5 @@ returns-2 c =
 
 pub run-spec : {M : Type 1} → statement M
 run-spec =
-    tie.close
-    (tie.spec
-    start-plan-requires
-    cost-requires
-    same-length
-    returns
-    slice-aggregate-neighbours
-    neighbours-requires
-    slice-aggregate-rounds
-    rounds-requires
-    settled-requires
-    same-length-2
-    returns-2)
+    tie.close (tie.spec start-plan-requires cost-requires same-length returns slice-aggregate-neighbours neighbours-requires
+    slice-aggregate-rounds rounds-requires settled-requires same-length-2 returns-2)

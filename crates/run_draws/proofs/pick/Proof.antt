@@ -131,34 +131,7 @@ returns-3 c =
 
 pub pick-spec : {M : Type 1} → statement M
 pick-spec =
-    tie.close
-    (tie.spec
-    add-among
-    among-requires
-    add-among-2
-    among-requires-2
-    mul-row
-    add-among-3
-    among-requires-3
-    add-picks
-    mul-picks
-    shared-slice-read-picks
-    slice-write-picks
-    same-length
-    returns
-    add-among-4
-    sub-among
-    among-requires-4
-    add-picks-2
-    mul-picks-2
-    shared-slice-read-picks-2
-    slice-write-picks-2
-    same-length-2
-    returns-2
-    add-picks-3
-    add-picks-4
-    mul-picks-3
-    shared-slice-read-picks-3
-    slice-write-picks-3
-    same-length-3
-    returns-3)
+    tie.close (tie.spec add-among among-requires add-among-2 among-requires-2 mul-row add-among-3 among-requires-3 add-picks mul-picks
+    shared-slice-read-picks slice-write-picks same-length returns add-among-4 sub-among among-requires-4 add-picks-2 mul-picks-2
+    shared-slice-read-picks-2 slice-write-picks-2 same-length-2 returns-2 add-picks-3 add-picks-4 mul-picks-3 shared-slice-read-picks-3
+    slice-write-picks-3 same-length-3 returns-3)

@@ -112,22 +112,5 @@ returns c =
 
 pub round-spec : {M : Type 1} → statement M
 round-spec =
-    tie.close
-    (tie.spec
-    among-requires
-    mul-row
-    add-pass
-    mul-pass
-    sub-pass
-    part-pass-start
-    part-pass-end
-    pass-requires
-    slice-aggregate-pick
-    pick-requires
-    sub-rebuild
-    part-rebuild-start
-    part-rebuild-end
-    rebuild-requires
-    counted-requires
-    same-length
-    returns)
+    tie.close (tie.spec among-requires mul-row add-pass mul-pass sub-pass part-pass-start part-pass-end pass-requires slice-aggregate-pick
+    pick-requires sub-rebuild part-rebuild-start part-rebuild-end rebuild-requires counted-requires same-length returns)

@@ -93,32 +93,8 @@ returns-3 c =
 
 pub answer-sheet-spec : {M : Type 1} → statement M
 answer-sheet-spec =
-    tie.close
-    (tie.spec
-    slice-aggregate-read-head
-    slice-aggregate-read-head-2
-    read-head-requires
-    enum-known-head
-    enum-told
-    print-refusal-requires
-    same-length
-    returns
-    slice-aggregate-read-at
-    slice-aggregate-read-at-2
-    slice-aggregate-read-at-3
-    slice-aggregate-read-at-4
-    read-at-requires
-    enum-known-h
-    enum-told-2
-    print-refusal-requires-2
-    same-length-2
-    returns-2
-    slice-aggregate-run-sheet
-    slice-aggregate-run-sheet-2
-    slice-aggregate-run-sheet-3
-    slice-aggregate-run-sheet-4
-    slice-aggregate-run-sheet-5
-    slice-aggregate-run-sheet-6
-    run-sheet-requires
-    same-length-3
-    returns-3)
+    tie.close (tie.spec slice-aggregate-read-head slice-aggregate-read-head-2 read-head-requires enum-known-head enum-told
+    print-refusal-requires same-length returns slice-aggregate-read-at slice-aggregate-read-at-2 slice-aggregate-read-at-3
+    slice-aggregate-read-at-4 read-at-requires enum-known-h enum-told-2 print-refusal-requires-2 same-length-2 returns-2
+    slice-aggregate-run-sheet slice-aggregate-run-sheet-2 slice-aggregate-run-sheet-3 slice-aggregate-run-sheet-4
+    slice-aggregate-run-sheet-5 slice-aggregate-run-sheet-6 run-sheet-requires same-length-3 returns-3)

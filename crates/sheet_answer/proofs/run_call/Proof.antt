@@ -64,21 +64,5 @@ returns-4 c =
 
 pub run-call-spec : {M : Type 1} → statement M
 run-call-spec =
-    tie.close
-    (tie.spec
-    weigh-requires
-    same-length
-    same-length-2
-    returns
-    start-plan-requires
-    same-length-3
-    same-length-4
-    returns-2
-    solve-requires
-    same-length-5
-    same-length-6
-    returns-3
-    run-priced-requires
-    same-length-7
-    same-length-8
-    returns-4)
+    tie.close (tie.spec weigh-requires same-length same-length-2 returns start-plan-requires same-length-3 same-length-4 returns-2
+    solve-requires same-length-5 same-length-6 returns-3 run-priced-requires same-length-7 same-length-8 returns-4)

@@ -77,23 +77,6 @@ returns-4 c =
 
 pub run-priced-spec : {M : Type 1} → statement M
 run-priced-spec =
-    tie.close
-    (tie.spec
-    shared-slice-read-first
-    shared-slice-read-second
-    two-opt-requires
-    same-length
-    same-length-2
-    returns
-    rebuild-requires
-    same-length-3
-    same-length-4
-    returns-2
-    exhaustive-requires
-    same-length-5
-    same-length-6
-    returns-3
-    pruned-requires
-    same-length-7
-    same-length-8
-    returns-4)
+    tie.close (tie.spec shared-slice-read-first shared-slice-read-second two-opt-requires same-length same-length-2 returns rebuild-requires
+    same-length-3 same-length-4 returns-2 exhaustive-requires same-length-5 same-length-6 returns-3 pruned-requires same-length-7
+    same-length-8 returns-4)

@@ -100,32 +100,7 @@ returns c =
 
 pub run-sheet-spec : {M : Type 1} → statement M
 run-sheet-spec =
-    tie.close
-    (tie.spec
-    mul-ends
-    cast-l
-    mul-entries
-    add-plan-length
-    plan-length-requires
-    sub-run-call
-    part-run-call-start
-    part-run-call-end
-    sub-run-call-2
-    part-run-call-start-2
-    part-run-call-end-2
-    sub-run-call-3
-    part-run-call-start-3
-    part-run-call-end-3
-    sub-run-call-4
-    part-run-call-start-4
-    part-run-call-end-4
-    sub-run-call-5
-    part-run-call-start-5
-    part-run-call-end-5
-    sub-run-call-6
-    part-run-call-start-6
-    part-run-call-end-6
-    run-call-requires
-    same-length
-    same-length-2
-    returns)
+    tie.close (tie.spec mul-ends cast-l mul-entries add-plan-length plan-length-requires sub-run-call part-run-call-start part-run-call-end
+    sub-run-call-2 part-run-call-start-2 part-run-call-end-2 sub-run-call-3 part-run-call-start-3 part-run-call-end-3 sub-run-call-4
+    part-run-call-start-4 part-run-call-end-4 sub-run-call-5 part-run-call-start-5 part-run-call-end-5 sub-run-call-6 part-run-call-start-6
+    part-run-call-end-6 run-call-requires same-length same-length-2 returns)

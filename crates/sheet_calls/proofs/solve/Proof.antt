@@ -45,16 +45,5 @@ returns-2 c =
 
 pub solve-spec : {M : Type 1} → statement M
 solve-spec =
-    tie.close
-    (tie.spec
-    solve-requires
-    enum-known-number
-    print-refusal-requires
-    enum-known-t
-    print-totals-and-list-requires
-    same-length
-    same-length-2
-    returns
-    same-length-3
-    same-length-4
-    returns-2)
+    tie.close (tie.spec solve-requires enum-known-number print-refusal-requires enum-known-t print-totals-and-list-requires same-length
+    same-length-2 returns same-length-3 same-length-4 returns-2)

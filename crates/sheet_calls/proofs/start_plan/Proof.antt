@@ -43,16 +43,5 @@ returns-2 c =
 
 pub start-plan-spec : {M : Type 1} → statement M
 start-plan-spec =
-    tie.close
-    (tie.spec
-    start-plan-requires
-    enum-known-number
-    print-refusal-requires
-    enum-told
-    print-list-requires
-    same-length
-    same-length-2
-    returns
-    same-length-3
-    same-length-4
-    returns-2)
+    tie.close (tie.spec start-plan-requires enum-known-number print-refusal-requires enum-told print-list-requires same-length same-length-2
+    returns same-length-3 same-length-4 returns-2)

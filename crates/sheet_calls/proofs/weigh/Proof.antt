@@ -37,14 +37,5 @@ returns-2 c = shown-weight _ _ _ _ _ (sym (c .before .before .before .before .be
 
 pub weigh-spec : {M : Type 1} → statement M
 weigh-spec =
-    tie.close
-    (tie.spec
-    weigh-requires
-    enum-known-number
-    print-refusal-requires
-    enum-known-c
-    print-cost-requires
-    same-length
-    returns
-    same-length-2
-    returns-2)
+    tie.close (tie.spec weigh-requires enum-known-number print-refusal-requires enum-known-c print-cost-requires same-length returns
+    same-length-2 returns-2)

@@ -41,13 +41,4 @@ returns-3 c =
 
 pub check-list-spec : {M : Type 1} → statement M
 check-list-spec =
-    tie.close
-    (tie.spec
-    count-fields-requires
-    returns
-    check-line-requires
-    returns-2
-    mul-t8
-    add-t9
-    add-t10
-    returns-3)
+    tie.close (tie.spec count-fields-requires returns check-line-requires returns-2 mul-t8 add-t9 add-t10 returns-3)

@@ -60,17 +60,5 @@ returns-2 c =
 
 pub count-fields-spec : {M : Type 1} → statement M
 count-fields-spec =
-    tie.close
-    (tie.spec
-    Inv-loop
-    μ-loop
-    loop-holds
-    read-field-requires
-    enum-told
-    enum-told-2
-    returns
-    add-next
-    add-i
-    loop-less
-    loop-again
+    tie.close (tie.spec Inv-loop μ-loop loop-holds read-field-requires enum-told enum-told-2 returns add-next add-i loop-less loop-again
     returns-2)

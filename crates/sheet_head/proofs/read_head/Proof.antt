@@ -81,21 +81,5 @@ returns-4 c =
 
 pub read-head-spec : {M : Type 1} → statement M
 read-head-spec =
-    tie.close
-    (tie.spec
-    read-call-requires
-    returns
-    add-first
-    check-given-requires
-    enum-known-g
-    enum-told
-    returns-2
-    check-plan-requires
-    enum-known-p
-    enum-told-2
-    returns-3
-    fill-list-requires
-    fill-list-requires-2
-    same-length
-    same-length-2
-    returns-4)
+    tie.close (tie.spec read-call-requires returns add-first check-given-requires enum-known-g enum-told returns-2 check-plan-requires
+    enum-known-p enum-told-2 returns-3 fill-list-requires fill-list-requires-2 same-length same-length-2 returns-4)

@@ -32,13 +32,5 @@ returns-2 c = shown-weighed _ _ _ _ _ _ (sym (c .before .before .before .before 
 
 pub print-weighed-spec : {M : Type 1} → statement M
 print-weighed-spec =
-    tie.close
-    (tie.spec
-    enum-known-answer
-    print-refusal-requires
-    enum-known-answer-2
-    print-cost-and-list-requires
-    same-length
-    returns
-    same-length-2
-    returns-2)
+    tie.close (tie.spec enum-known-answer print-refusal-requires enum-known-answer-2 print-cost-and-list-requires same-length returns
+    same-length-2 returns-2)

@@ -74,22 +74,5 @@ returns c =
 
 pub put-list-spec : {M : Type 1} → statement M
 put-list-spec =
-    tie.close
-    (tie.spec
-    Inv-loop
-    μ-loop
-    loop-holds
-    mul-put-number
-    add-put-number
-    mul-put-number-2
-    shared-slice-read-put-number
-    cast-put-number
-    put-number-requires
-    add-i
-    loop-less
-    loop-again
-    mul-out
-    add-out
-    slice-write-out
-    same-length
-    returns)
+    tie.close (tie.spec Inv-loop μ-loop loop-holds mul-put-number add-put-number mul-put-number-2 shared-slice-read-put-number
+    cast-put-number put-number-requires add-i loop-less loop-again mul-out add-out slice-write-out same-length returns)

@@ -69,23 +69,6 @@ returns-2 c =
 
 pub answer-spec : {M : Type 1} → statement M
 answer-spec =
-    tie.close
-    (tie.spec
-    slice-aggregate-read-file
-    slice-aggregate-read-file-2
-    slice-aggregate-read-file-3
-    slice-aggregate-read-file-4
-    read-file-requires
-    enum-known-h
-    enum-told
-    print-refusal-requires
-    same-length
-    returns
-    slice-aggregate-run-task
-    slice-aggregate-run-task-2
-    slice-aggregate-run-task-3
-    slice-aggregate-run-task-4
-    slice-aggregate-run-task-5
-    run-task-requires
-    same-length-2
-    returns-2)
+    tie.close (tie.spec slice-aggregate-read-file slice-aggregate-read-file-2 slice-aggregate-read-file-3 slice-aggregate-read-file-4
+    read-file-requires enum-known-h enum-told print-refusal-requires same-length returns slice-aggregate-run-task slice-aggregate-run-task-2
+    slice-aggregate-run-task-3 slice-aggregate-run-task-4 slice-aggregate-run-task-5 run-task-requires same-length-2 returns-2)

@@ -67,24 +67,6 @@ returns-3 c = search needs
 
 pub print-answer-spec : {M : Type 1} → statement M
 print-answer-spec =
-    tie.close
-    (tie.spec
-    slice-aggregate-fill
-    fill-requires
-    enum-known-n
-    enum-told
-    fail-requires
-    returns
-    sub-answer
-    part-answer-start
-    part-answer-end
-    slice-aggregate-answer
-    answer-requires
-    sub-write-all
-    part-write-all-start
-    part-write-all-end
-    write-all-requires
-    slice-aggregate-fail
-    fail-requires-2
-    returns-2
-    returns-3)
+    tie.close (tie.spec slice-aggregate-fill fill-requires enum-known-n enum-told fail-requires returns sub-answer part-answer-start
+    part-answer-end slice-aggregate-answer answer-requires sub-write-all part-write-all-start part-write-all-end write-all-requires
+    slice-aggregate-fail fail-requires-2 returns-2 returns-3)

@@ -53,16 +53,5 @@ returns-2 c =
 
 pub run-spec : {M : Type 1} → statement M
 run-spec =
-    tie.close
-    (tie.spec
-    solve-requires
-    enum-known-number
-    print-refusal-requires
-    enum-known-t
-    print-run-requires
-    same-length
-    same-length-2
-    returns
-    same-length-3
-    same-length-4
-    returns-2)
+    tie.close (tie.spec solve-requires enum-known-number print-refusal-requires enum-known-t print-run-requires same-length same-length-2
+    returns same-length-3 same-length-4 returns-2)

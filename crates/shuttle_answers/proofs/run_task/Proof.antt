@@ -80,28 +80,6 @@ returns c =
 
 pub run-task-spec : {M : Type 1} → statement M
 run-task-spec =
-    tie.close
-    (tie.spec
-    mul-ends
-    cast-l
-    mul-entries
-    add-m
-    sub-run
-    part-run-start
-    part-run-end
-    sub-run-2
-    part-run-start-2
-    part-run-end-2
-    sub-run-3
-    part-run-start-3
-    part-run-end-3
-    sub-run-4
-    part-run-start-4
-    part-run-end-4
-    sub-run-5
-    part-run-start-5
-    part-run-end-5
-    run-requires
-    same-length
-    same-length-2
-    returns)
+    tie.close (tie.spec mul-ends cast-l mul-entries add-m sub-run part-run-start part-run-end sub-run-2 part-run-start-2 part-run-end-2
+    sub-run-3 part-run-start-3 part-run-end-3 sub-run-4 part-run-start-4 part-run-end-4 sub-run-5 part-run-start-5 part-run-end-5
+    run-requires same-length same-length-2 returns)

@@ -73,21 +73,5 @@ returns-2 c =
 
 pub find-spec : {M : Type 1} → statement M
 find-spec =
-    tie.close
-    (tie.spec
-    Inv-loop
-    μ-loop
-    mul-position
-    sub-position
-    part-position-start
-    part-position-end
-    position-requires
-    loop-holds
-    mul-size
-    shared-slice-read-size
-    cast-size
-    returns
-    add-k
-    loop-less
-    loop-again
-    returns-2)
+    tie.close (tie.spec Inv-loop μ-loop mul-position sub-position part-position-start part-position-end position-requires loop-holds
+    mul-size shared-slice-read-size cast-size returns add-k loop-less loop-again returns-2)

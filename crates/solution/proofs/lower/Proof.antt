@@ -53,17 +53,5 @@ returns-2 c =
 
 pub lower-spec : {M : Type 1} → statement M
 lower-spec =
-    tie.close
-    (tie.spec
-    Inv-loop
-    μ-loop
-    loop-holds
-    mul-x
-    shared-slice-read-x
-    mul-y
-    shared-slice-read-y
-    returns
-    add-i
-    loop-less
-    loop-again
+    tie.close (tie.spec Inv-loop μ-loop loop-holds mul-x shared-slice-read-x mul-y shared-slice-read-y returns add-i loop-less loop-again
     returns-2)

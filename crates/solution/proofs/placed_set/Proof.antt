@@ -31,12 +31,4 @@ returns c =
 
 pub placed-set-spec : {M : Type 1} → statement M
 placed-set-spec =
-    tie.close
-    (tie.spec
-    offset-requires
-    mul-set-of
-    sub-set-of
-    part-set-of-start
-    part-set-of-end
-    set-of-requires
-    returns)
+    tie.close (tie.spec offset-requires mul-set-of sub-set-of part-set-of-start part-set-of-end set-of-requires returns)

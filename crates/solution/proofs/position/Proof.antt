@@ -50,16 +50,5 @@ returns c = let z : c .before .loop .i ≡ 0 = omega arith in (rw z at (c .befor
 
 pub position-spec : {M : Type 1} → statement M
 position-spec =
-    tie.close
-    (tie.spec
-    Inv-loop
-    μ-loop
-    loop-holds
-    sub-i
-    mul-if1
-    shared-slice-read-if1
-    loop-less
-    loop-again
-    loop-less-2
-    loop-again-2
+    tie.close (tie.spec Inv-loop μ-loop loop-holds sub-i mul-if1 shared-slice-read-if1 loop-less loop-again loop-less-2 loop-again-2
     returns)

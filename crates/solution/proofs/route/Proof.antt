@@ -48,15 +48,5 @@ returns c =
 
 pub route-spec : {M : Type 1} → statement M
 route-spec =
-    tie.close
-    (tie.spec
-    offset-requires
-    mul-end
-    shared-slice-read-end
-    cast-end
-    add-end
-    mul-result
-    sub-result
-    part-result-start
-    part-result-end
-    returns)
+    tie.close (tie.spec offset-requires mul-end shared-slice-read-end cast-end add-end mul-result sub-result part-result-start
+    part-result-end returns)

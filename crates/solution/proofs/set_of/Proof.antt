@@ -46,15 +46,4 @@ returns c =
 
 pub set-of-spec : {M : Type 1} → statement M
 set-of-spec =
-    tie.close
-    (tie.spec
-    Inv-loop
-    μ-loop
-    loop-holds
-    mul-with
-    shared-slice-read-with
-    with-requires
-    add-i
-    loop-less
-    loop-again
-    returns)
+    tie.close (tie.spec Inv-loop μ-loop loop-holds mul-with shared-slice-read-with with-requires add-i loop-less loop-again returns)

@@ -47,16 +47,5 @@ returns c = let e : c .before .loop .i ≡ c .before .before .args .v = omega ar
 
 pub sum-lengths-spec : {M : Type 1} → statement M
 sum-lengths-spec =
-    tie.close
-    (tie.spec
-    Inv-loop
-    μ-loop
-    loop-holds
-    mul-total
-    shared-slice-read-total
-    cast-total
-    add-total
-    add-i
-    loop-less
-    loop-again
+    tie.close (tie.spec Inv-loop μ-loop loop-holds mul-total shared-slice-read-total cast-total add-total add-i loop-less loop-again
     returns)

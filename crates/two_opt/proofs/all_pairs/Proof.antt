@@ -1,4 +1,4 @@
--- `two_opt::all_pairs` meets its contract. The invariant: the pairs that are left make of the plan what all of them make of the first plan.
+-- The invariant: the pairs that are left make of the plan what all of them make of the first plan.
 use Prim.Native.Nat.{_-_}
 use native.Mathlib.Omega.{arith}
 use lib.ListN.{length, drop}
@@ -53,14 +53,4 @@ returns c =
 
 pub all-pairs-spec : {M : Type 1} → statement M
 all-pairs-spec =
-    tie.close
-    (tie.spec
-    Inv-loop
-    μ-loop
-    loop-holds
-    pairs-of-requires
-    add-i
-    loop-less
-    loop-again
-    same-length
-    returns)
+    tie.close (tie.spec Inv-loop μ-loop loop-holds pairs-of-requires add-i loop-less loop-again same-length returns)

@@ -1,4 +1,3 @@
--- `two_opt::pair` meets its contract. Assumes nothing.
 use mathlib.Core.Path.{sym, _∙_}
 use Rattle.model.specs.Plan.{decode}
 use Rattle.two_opt.proofs.Placed.{On, found, missing, first-missing, second-missing, on-one, on-two, one-route, two-routes, unchanged, the-pair}
@@ -106,21 +105,5 @@ returns-4 c =
 
 pub pair-spec : {M : Type 1} → statement M
 pair-spec =
-    tie.close
-    (tie.spec
-    find-requires
-    enum-known-x
-    enum-told
-    same-length
-    returns
-    find-requires-2
-    enum-known-y
-    enum-told-2
-    same-length-2
-    returns-2
-    intra-requires
-    inter-requires
-    same-length-3
-    returns-3
-    same-length-4
-    returns-4)
+    tie.close (tie.spec find-requires enum-known-x enum-told same-length returns find-requires-2 enum-known-y enum-told-2 same-length-2
+    returns-2 intra-requires inter-requires same-length-3 returns-3 same-length-4 returns-4)

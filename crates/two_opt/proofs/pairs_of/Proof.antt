@@ -1,4 +1,4 @@
--- `two_opt::pairs_of` meets its contract. The invariant: the pairs that are left make of the plan what all of them make of the first plan.
+-- The invariant: the pairs that are left make of the plan what all of them make of the first plan.
 use Prim.Native.Nat.{_-_, _<_}
 use native.Mathlib.Omega.{arith}
 use native.Mathlib.Numerals.{add-one}
@@ -80,19 +80,5 @@ returns c =
 
 pub pairs-of-spec : {M : Type 1} → statement M
 pairs-of-spec =
-    tie.close
-    (tie.spec
-    Inv-loop
-    μ-loop
-    mul-s
-    shared-slice-read-s
-    add-j
-    loop-holds
-    mul-pair
-    shared-slice-read-pair
-    pair-requires
-    add-j-2
-    loop-less
-    loop-again
-    same-length
-    returns)
+    tie.close (tie.spec Inv-loop μ-loop mul-s shared-slice-read-s add-j loop-holds mul-pair shared-slice-read-pair pair-requires add-j-2
+    loop-less loop-again same-length returns)

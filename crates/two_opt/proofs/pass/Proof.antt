@@ -1,4 +1,4 @@
--- `two_opt::pass` meets its contract: the list is cut to ten stops where it has more. Assumes nothing.
+-- The list is cut to ten stops where it has more.
 use Rattle.model.proofs.Counts.{once-take}
 use Rattle.two_opt.proofs.Turns.{ten, fewer}
 use borrow.Author.Needs.{needs}
@@ -43,14 +43,5 @@ returns-2 c =
 
 pub pass-spec : {M : Type 1} → statement M
 pass-spec =
-    tie.close
-    (tie.spec
-    sub-all-pairs
-    part-all-pairs-start
-    part-all-pairs-end
-    all-pairs-requires
-    all-pairs-requires-2
-    same-length
-    returns
-    same-length-2
-    returns-2)
+    tie.close (tie.spec sub-all-pairs part-all-pairs-start part-all-pairs-end all-pairs-requires all-pairs-requires-2 same-length returns
+    same-length-2 returns-2)

@@ -1,4 +1,3 @@
--- `two_opt_candidates::exchanged` meets its contract.
 use borrow.Author.Needs.{needs}
 use denote.Ref.{now}
 use Rattle.two_opt_candidates.specs.Weighed.{found}

@@ -1,4 +1,3 @@
--- `two_opt_candidates::least_of_cuts` meets its contract.
 use borrow.Author.Needs.{needs}
 use native.Mathlib.Omega.{arith}
 use denote.Ref.{now}
@@ -49,13 +48,5 @@ returns c =
 
 pub least-of-cuts-spec : {M : Type 1} → statement M
 least-of-cuts-spec =
-    tie.close
-    (tie.spec
-    pair-price-requires
-    reversed-requires
-    reversed-requires-2
-    least-of-turns-requires
-    least-of-turns-requires-2
-    least-of-turns-requires-3
-    least-of-turns-requires-4
-    returns)
+    tie.close (tie.spec pair-price-requires reversed-requires reversed-requires-2 least-of-turns-requires least-of-turns-requires-2
+    least-of-turns-requires-3 least-of-turns-requires-4 returns)

@@ -1,4 +1,3 @@
--- `two_opt_candidates::least_of_turns` meets its contract.
 use borrow.Author.Needs.{needs}
 use native.Mathlib.Omega.{arith}
 use denote.Ref.{now}
@@ -55,16 +54,5 @@ returns c =
 
 pub least-of-turns-spec : {M : Type 1} → statement M
 least-of-turns-spec =
-    tie.close
-    (tie.spec
-    weighed-requires
-    exchanged-requires
-    add-weighed
-    weighed-requires-2
-    add-exchanged
-    exchanged-requires-2
-    add-exchanged-2
-    exchanged-requires-3
-    add-exchanged-3
-    exchanged-requires-4
-    returns)
+    tie.close (tie.spec weighed-requires exchanged-requires add-weighed weighed-requires-2 add-exchanged exchanged-requires-2
+    add-exchanged-2 exchanged-requires-3 add-exchanged-3 exchanged-requires-4 returns)

@@ -1,4 +1,3 @@
--- `two_opt_candidates::least_pair` meets its contract.
 use borrow.Author.Needs.{needs}
 use mathlib.Core.Path.{_∙_}
 use Rattle.two_opt_candidates.proofs.Sides.{first-there, second-there, two-routes, all-found}
@@ -35,11 +34,4 @@ returns c =
 
 pub least-pair-spec : {M : Type 1} → statement M
 least-pair-spec =
-    tie.close
-    (tie.spec
-    position-requires
-    position-requires-2
-    cut-at-requires
-    cut-at-requires-2
-    least-of-cuts-requires
-    returns)
+    tie.close (tie.spec position-requires position-requires-2 cut-at-requires cut-at-requires-2 least-of-cuts-requires returns)

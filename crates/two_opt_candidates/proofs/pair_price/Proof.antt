@@ -1,4 +1,3 @@
--- `two_opt_candidates::pair_price` meets its contract.
 use borrow.Author.Needs.{needs}
 use Rattle.two_opt_candidates.proofs.Weighing.{pair-weighs}
 use Rattle.two_opt_candidates.proofs.pair_price.Statement.{statement}

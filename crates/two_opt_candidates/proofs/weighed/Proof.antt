@@ -1,4 +1,3 @@
--- `two_opt_candidates::weighed` meets its contract.
 use borrow.Author.Needs.{needs}
 use Rattle.two_opt_candidates.specs.Weighed.{found}
 use Rattle.two_opt_candidates.proofs.Weighing.{weighs-whole, tried-first, tried-second}

@@ -1,4 +1,3 @@
--- `two_opt_cuts::cut_at` meets its contract.
 use borrow.Author.Needs.{needs}
 use native.Mathlib.Omega.{arith}
 use Prim.Native.Nat.{_+_}
@@ -83,20 +82,6 @@ returns c =
 
 pub cut-at-spec : {M : Type 1} → statement M
 cut-at-spec =
-    tie.close
-    (tie.spec
-    slice-aggregate-head-ends
-    head-ends-requires
-    add-tail-ends
-    mul-tail-ends
-    sub-tail-ends
-    part-tail-ends-start
-    part-tail-ends-end
-    tail-ends-requires
-    mul-with-stop
-    shared-slice-read-with-stop
-    with-stop-requires
-    mul-with-stop-2
-    shared-slice-read-with-stop-2
-    with-stop-requires-2
-    returns)
+    tie.close (tie.spec slice-aggregate-head-ends head-ends-requires add-tail-ends mul-tail-ends sub-tail-ends part-tail-ends-start
+    part-tail-ends-end tail-ends-requires mul-with-stop shared-slice-read-with-stop with-stop-requires mul-with-stop-2
+    shared-slice-read-with-stop-2 with-stop-requires-2 returns)

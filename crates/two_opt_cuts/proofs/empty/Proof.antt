@@ -1,4 +1,3 @@
--- `two_opt_cuts::empty` meets its contract.
 use borrow.Author.Needs.{needs}
 use Rattle.two_opt_cuts.proofs.Laws.{end-none}
 use Rattle.two_opt_cuts.proofs.empty.Statement.{statement}

@@ -1,4 +1,4 @@
--- `two_opt_cuts::head_ends` meets its contract. The invariant: the stops up to i are passed.
+-- The invariant: the stops up to i are passed.
 use borrow.Author.Needs.{needs}
 use native.Mathlib.Omega.{arith}
 use Prim.Native.Nat.{_-_, _≤_}
@@ -68,17 +68,5 @@ returns c =
 
 pub head-ends-spec : {M : Type 1} → statement M
 head-ends-spec =
-    tie.close
-    (tie.spec
-    Inv-loop
-    μ-loop
-    empty-requires
-    empty-requires-2
-    loop-holds
-    mul-with-stop
-    shared-slice-read-with-stop
-    with-stop-requires
-    add-i
-    loop-less
-    loop-again
-    returns)
+    tie.close (tie.spec Inv-loop μ-loop empty-requires empty-requires-2 loop-holds mul-with-stop shared-slice-read-with-stop
+    with-stop-requires add-i loop-less loop-again returns)

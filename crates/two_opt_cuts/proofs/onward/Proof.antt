@@ -1,4 +1,3 @@
--- `two_opt_cuts::onward` meets its contract.
 use borrow.Author.Needs.{needs}
 use denote.Ref.{now}
 use Rattle.two_opt_cuts.proofs.Laws.{end-more}

@@ -1,4 +1,4 @@
--- `two_opt_cuts::tail_ends` meets its contract. The invariant: the stops from i on are passed.
+-- The invariant: the stops from i on are passed.
 use borrow.Author.Needs.{needs}
 use native.Mathlib.Omega.{arith}
 use Prim.Native.Nat.{_+_, _-_, _≤_}
@@ -75,17 +75,5 @@ returns c =
 
 pub tail-ends-spec : {M : Type 1} → statement M
 tail-ends-spec =
-    tie.close
-    (tie.spec
-    Inv-loop
-    μ-loop
-    empty-requires
-    empty-requires-2
-    loop-holds
-    sub-i
-    mul-with-stop
-    shared-slice-read-with-stop
-    with-stop-requires
-    loop-less
-    loop-again
-    returns)
+    tie.close (tie.spec Inv-loop μ-loop empty-requires empty-requires-2 loop-holds sub-i mul-with-stop shared-slice-read-with-stop
+    with-stop-requires loop-less loop-again returns)

@@ -1,4 +1,3 @@
--- `two_opt_cuts::with_stop` meets its contract.
 use borrow.Author.Needs.{needs}
 use Rattle.two_opt_cuts.proofs.with_stop.Statement.{statement}
 use Rattle.two_opt_cuts.proofs.with_stop.Tie as tie

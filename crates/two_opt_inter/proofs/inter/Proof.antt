@@ -1,4 +1,3 @@
--- `two_opt_inter::inter` meets its contract.
 use borrow.Author.Needs.{needs}
 use native.Mathlib.Omega.{arith}
 use lib.ListN.{take}
@@ -65,15 +64,5 @@ returns-2 c =
 
 pub inter-spec : {M : Type 1} → statement M
 inter-spec =
-    tie.close
-    (tie.spec
-    least-of-plan-requires
-    same-length
-    returns
-    slice-aggregate-paste
-    paste-requires
-    array-share-prefix-old
-    slice-aggregate-write-candidate
-    write-candidate-requires
-    same-length-2
-    returns-2)
+    tie.close (tie.spec least-of-plan-requires same-length returns slice-aggregate-paste paste-requires array-share-prefix-old
+    slice-aggregate-write-candidate write-candidate-requires same-length-2 returns-2)

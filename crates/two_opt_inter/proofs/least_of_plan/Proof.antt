@@ -1,4 +1,3 @@
--- `two_opt_inter::least_of_plan` meets its contract.
 use borrow.Author.Needs.{needs}
 use denote.Ref.{now}
 use Rattle.model.specs.Plan.{decode}

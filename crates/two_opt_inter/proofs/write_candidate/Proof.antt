@@ -1,4 +1,3 @@
--- `two_opt_inter::write_candidate` meets its contract.
 use borrow.Author.Needs.{needs}
 use Prim.Native.Nat.{_/_, _%_, _≤_}
 use lib.Dec.{eqb}
@@ -102,20 +101,6 @@ returns c =
 
 pub write-candidate-spec : {M : Type 1} → statement M
 write-candidate-spec =
-    tie.close
-    (tie.spec
-    route-requires
-    route-requires-2
-    slice-aggregate-write-turned
-    write-turned-requires
-    slice-aggregate-write-turned-2
-    write-turned-requires-2
-    array-share-prefix-xa
-    slice-aggregate-ta
-    array-share-prefix-xb
-    slice-aggregate-tb
-    position-requires
-    position-requires-2
-    write-pair-requires
-    same-length
-    returns)
+    tie.close (tie.spec route-requires route-requires-2 slice-aggregate-write-turned write-turned-requires slice-aggregate-write-turned-2
+    write-turned-requires-2 array-share-prefix-xa slice-aggregate-ta array-share-prefix-xb slice-aggregate-tb position-requires
+    position-requires-2 write-pair-requires same-length returns)

@@ -1,4 +1,3 @@
--- `two_opt_inter::write_ends` meets its contract.
 use borrow.Author.Needs.{needs}
 use mathlib.Core.Path.{sym}
 use lib.ListN.{length}
@@ -42,13 +41,4 @@ returns c =
 
 pub write-ends-spec : {M : Type 1} → statement M
 write-ends-spec =
-    tie.close
-    (tie.spec
-    slice-aggregate-join
-    mul-join
-    sub-join
-    part-join-start
-    part-join-end
-    join-requires
-    same-length
-    returns)
+    tie.close (tie.spec slice-aggregate-join mul-join sub-join part-join-start part-join-end join-requires same-length returns)

@@ -1,4 +1,3 @@
--- `two_opt_inter::write_joined` meets its contract.
 use borrow.Author.Needs.{needs}
 use denote.Ref.{now}
 use Rattle.two_opt_inter.proofs.Rows.{written-joined}
@@ -63,17 +62,5 @@ returns-4 c =
 
 pub write-joined-spec : {M : Type 1} → statement M
 write-joined-spec =
-    tie.close
-    (tie.spec
-    write-ends-requires
-    same-length
-    returns
-    write-ends-requires-2
-    same-length-2
-    returns-2
-    write-ends-requires-3
-    same-length-3
-    returns-3
-    write-ends-requires-4
-    same-length-4
-    returns-4)
+    tie.close (tie.spec write-ends-requires same-length returns write-ends-requires-2 same-length-2 returns-2 write-ends-requires-3
+    same-length-3 returns-3 write-ends-requires-4 same-length-4 returns-4)

@@ -1,4 +1,3 @@
--- `two_opt_inter::write_pair` meets its contract.
 use borrow.Author.Needs.{needs}
 use native.Mathlib.Omega.{arith}
 use Prim.Native.Nat.{_≤_}
@@ -114,17 +113,6 @@ returns c =
 
 pub write-pair-spec : {M : Type 1} → statement M
 write-pair-spec =
-    tie.close
-    (tie.spec
-    choice-of-requires
-    slice-aggregate-write-joined
-    write-joined-requires
-    slice-aggregate-write-joined-2
-    write-joined-requires-2
-    array-share-prefix-x
-    slice-aggregate-replace-two
-    array-share-prefix-y
-    slice-aggregate-replace-two-2
-    replace-two-requires
-    same-length
-    returns)
+    tie.close (tie.spec choice-of-requires slice-aggregate-write-joined write-joined-requires slice-aggregate-write-joined-2
+    write-joined-requires-2 array-share-prefix-x slice-aggregate-replace-two array-share-prefix-y slice-aggregate-replace-two-2
+    replace-two-requires same-length returns)

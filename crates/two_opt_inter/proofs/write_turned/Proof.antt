@@ -1,4 +1,3 @@
--- `two_opt_inter::write_turned` meets its contract.
 use borrow.Author.Needs.{needs}
 use denote.Ref.{now}
 use Rattle.two_opt_inter.proofs.Rows.{written-turned}

@@ -1,4 +1,3 @@
--- `two_opt_intra::intra` meets its contract. Assumes nothing.
 use native.Mathlib.Omega.{arith}
 use Rattle.model.specs.Plan.{routeOf, decode}
 use Rattle.two_opt_intra.proofs.OnRoute.{Given, bounds, Ordered, upward, downward, asked, improved}
@@ -121,34 +120,7 @@ returns-2 c =
 
 pub intra-spec : {M : Type 1} → statement M
 intra-spec =
-    tie.close
-    (tie.spec
-    offset-requires
-    mul-end
-    slice-read-end
-    cast-end
-    add-end
-    mul-position
-    sub-position
-    part-position-start
-    part-position-end
-    position-requires
-    mul-position-2
-    sub-position-2
-    part-position-start-2
-    part-position-end-2
-    position-requires-2
-    mul-reorder
-    sub-reorder
-    part-reorder-start
-    part-reorder-end
-    reorder-requires
-    mul-reorder-2
-    sub-reorder-2
-    part-reorder-start-2
-    part-reorder-end-2
-    reorder-requires-2
-    same-length
-    returns
-    same-length-2
-    returns-2)
+    tie.close (tie.spec offset-requires mul-end slice-read-end cast-end add-end mul-position sub-position part-position-start
+    part-position-end position-requires mul-position-2 sub-position-2 part-position-start-2 part-position-end-2 position-requires-2
+    mul-reorder sub-reorder part-reorder-start part-reorder-end reorder-requires mul-reorder-2 sub-reorder-2 part-reorder-start-2
+    part-reorder-end-2 reorder-requires-2 same-length returns same-length-2 returns-2)

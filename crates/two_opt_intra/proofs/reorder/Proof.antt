@@ -1,4 +1,3 @@
--- `two_opt_intra::reorder` meets its contract. Assumes nothing.
 use mathlib.Core.Path.{_∙_}
 use mathlib.Core.Bool.{true, false}
 use Rattle.model.specs.TwoOpt.{endsExchanged, inverted}
@@ -137,34 +136,7 @@ returns-4 c =
 
 pub reorder-spec : {M : Type 1} → statement M
 reorder-spec =
-    tie.close
-    (tie.spec
-    slice-aggregate-ends-exchanged
-    ends-exchanged-requires
-    slice-aggregate-inverted
-    inverted-requires
-    sub-weigh
-    part-weigh-start
-    part-weigh-end
-    weigh-requires
-    sub-weigh-2
-    part-weigh-start-2
-    part-weigh-end-2
-    weigh-requires-2
-    weigh-requires-3
-    same-length
-    returns
-    sub-paste
-    part-paste-start
-    part-paste-end
-    paste-requires
-    same-length-2
-    returns-2
-    same-length-3
-    returns-3
-    sub-paste-2
-    part-paste-start-2
-    part-paste-end-2
-    paste-requires-2
-    same-length-4
-    returns-4)
+    tie.close (tie.spec slice-aggregate-ends-exchanged ends-exchanged-requires slice-aggregate-inverted inverted-requires sub-weigh
+    part-weigh-start part-weigh-end weigh-requires sub-weigh-2 part-weigh-start-2 part-weigh-end-2 weigh-requires-2 weigh-requires-3
+    same-length returns sub-paste part-paste-start part-paste-end paste-requires same-length-2 returns-2 same-length-3 returns-3 sub-paste-2
+    part-paste-start-2 part-paste-end-2 paste-requires-2 same-length-4 returns-4)

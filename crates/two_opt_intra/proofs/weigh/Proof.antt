@@ -1,4 +1,3 @@
--- `two_opt_intra::weigh` meets its contract. Assumes nothing.
 use Rattle.two_opt_intra.proofs.Choice.{weighed}
 use borrow.Author.Needs.{needs}
 use Rattle.two_opt_intra.proofs.weigh.Statement.{statement}

@@ -1,4 +1,3 @@
--- `two_opt_inversions::ends_exchanged` meets its contract. Assumes nothing.
 use Rattle.two_opt_inversions.proofs.Laws.{ends-written}
 use borrow.Author.Needs.{needs}
 use Rattle.two_opt_inversions.proofs.ends_exchanged.Statement.{statement}
@@ -65,23 +64,6 @@ returns c =
 
 pub ends-exchanged-spec : {M : Type 1} → statement M
 ends-exchanged-spec =
-    tie.close
-    (tie.spec
-    mul-paste-reversed
-    sub-paste-reversed
-    part-paste-reversed-start
-    part-paste-reversed-end
-    paste-reversed-requires
-    add-paste
-    mul-paste
-    sub-paste
-    part-paste-start
-    part-paste-end
-    paste-requires
-    add-paste-reversed
-    sub-paste-reversed-2
-    part-paste-reversed-start-2
-    part-paste-reversed-end-2
-    paste-reversed-requires-2
-    same-length
-    returns)
+    tie.close (tie.spec mul-paste-reversed sub-paste-reversed part-paste-reversed-start part-paste-reversed-end paste-reversed-requires
+    add-paste mul-paste sub-paste part-paste-start part-paste-end paste-requires add-paste-reversed sub-paste-reversed-2
+    part-paste-reversed-start-2 part-paste-reversed-end-2 paste-reversed-requires-2 same-length returns)

@@ -1,4 +1,3 @@
--- `two_opt_inversions::inverted` meets its contract. Assumes nothing.
 use Rattle.two_opt_inversions.proofs.Laws.{inverted-written}
 use borrow.Author.Needs.{needs}
 use Rattle.two_opt_inversions.proofs.inverted.Statement.{statement}
@@ -65,23 +64,6 @@ returns c =
 
 pub inverted-spec : {M : Type 1} → statement M
 inverted-spec =
-    tie.close
-    (tie.spec
-    add-paste
-    sub-paste
-    part-paste-start
-    part-paste-end
-    paste-requires
-    add-paste-reversed
-    mul-paste-reversed
-    sub-paste-reversed
-    part-paste-reversed-start
-    part-paste-reversed-end
-    paste-reversed-requires
-    mul-paste
-    sub-paste-2
-    part-paste-start-2
-    part-paste-end-2
-    paste-requires-2
-    same-length
-    returns)
+    tie.close (tie.spec add-paste sub-paste part-paste-start part-paste-end paste-requires add-paste-reversed mul-paste-reversed
+    sub-paste-reversed part-paste-reversed-start part-paste-reversed-end paste-reversed-requires mul-paste sub-paste-2 part-paste-start-2
+    part-paste-end-2 paste-requires-2 same-length returns)
