@@ -1,4 +1,4 @@
--- The costs of plans within 01's limits are below 2 ^ 53, so that every sum of them in f64 is exact.
+-- The costs of plans within the limits are below 2 ^ 53, so that every sum of them in f64 is exact.
 use mathlib.Core.Path.{_≡_, sym, ap, ap₂, _∙_, subst}
 use Prim.Native.Nat.{ℕ, suc, _+_, _-_, _*_, _≤_, _<_}
 use native.Mathlib.Nat.{mul-le-mul, le-trans, add-mul, mul-add, mul-assoc, add-zero, add-suc, suc-add}

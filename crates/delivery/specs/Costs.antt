@@ -25,7 +25,7 @@ unfoldable pub tableCost : List ℕ → Prices → ℕ → Plan → ℕ
 unfolding tableDriving
 tableCost t p n P = tableDriving t p 0 P + missedCost p (n - placed P)
 
--- a plan of v routes and n stops with a leg table and prices, all within 01's limits
+-- a plan of v routes and n stops with a leg table and prices, all within the limits
 pub record Ready (t : List ℕ) (v n : ℕ) (p : Prices) (xs : List ℕ) : Type 0 where
   pub legs : LegTable t
   pub sizes : Sizes v n

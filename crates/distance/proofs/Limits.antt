@@ -1,4 +1,4 @@
--- Lists that no test of a call's arguments refuses are within 01's limits.
+-- Lists that no test of a call's arguments refuses are within the limits.
 use mathlib.Core.Path.{_≡_}
 use Prim.Native.Nat.{ℕ, _*_, _%_, _≤_, _<_}
 use native.Mathlib.Decide.{decLt}

@@ -9,12 +9,12 @@ use Rattle.model.specs.Job.{Job, jobOf, vehicleCount, stopCount, distance}
 use Rattle.model.specs.Legs.{leaves, reaches, legAt, LegTable, Fits}
 use Rattle.model.specs.declared.Prices.{Prices}
 
--- 01's limits on a table of distances and its size l
+-- the limits on a table of distances and its size l
 pub record Square (l : ℕ) (ds : List ℕ) : Type 0 where
   pub locations : l ≤ 80
   pub square : length ds ≡ l * l
 
--- 01's limits on the lists of a job
+-- the limits on the lists of a job
 pub record InLimits (vs ss : List ℕ) (l : ℕ) (ds : List ℕ) : Type 0 where
   pub even : length vs % 2 ≡ 0
   pub vehicles : length vs ≤ 32

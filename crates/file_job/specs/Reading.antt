@@ -48,7 +48,7 @@ pub record TablesAt (bytes : List ℕ) (at v n l : ℕ) : Type 0 where
 
 -- ---- the draws
 
--- a list of draws as 01 allows it
+-- a list of draws within the limits
 pub record IsDraws (ds : List ℕ) : Type 0 where
   pub some : 1 ≤ length ds
   pub few : length ds ≤ 1024

@@ -1,4 +1,4 @@
-// 01's marked sums, through the code. Prints the numbers of arrangements that the walk counts: of 7 stops in one gap, of 6 in two gaps, and
+// Worked figures of the specification, through the code. Prints the numbers of arrangements that the walk counts: of 7 stops in one gap, of 6 in two gaps, and
 // of 6 on three vehicles. The row for a pair on one route, 0 1 2 3 4 with stops 0 and 4, is checked.
 ghost use mathlib.Core.Path.{_≡_};
 ghost use mathlib.Core.List.{[], _∷_};

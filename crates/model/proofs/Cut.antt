@@ -1,4 +1,4 @@
--- 01, "Edges": with a vehicle and two stops, limit 9 is always cut. The stopping rule needs ten rounds, whatever the costs are.
+-- With a vehicle and two stops, limit 9 is always cut. The stopping rule needs ten rounds, whatever the costs are.
 use mathlib.Core.Path.{_≡_}
 use mathlib.Core.Bool.{Bool, true, false}
 use mathlib.Core.List.{[], _∷_}

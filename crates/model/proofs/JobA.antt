@@ -1,4 +1,4 @@
--- 01's Job A, whole: its run computed from the definitions, through the call's own answer and the plan that it leaves.
+-- Job A, whole: its run computed from the definitions, through the call's own answer and the plan that it leaves.
 use mathlib.Core.Path.{_≡_, refl}
 use Prim.Native.Nat.{ℕ}
 use mathlib.Core.List.{[], _∷_}

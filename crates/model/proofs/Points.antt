@@ -1,4 +1,4 @@
--- The points of 01 that are easiest to get wrong, each on a small input, computed.
+-- The points that are easiest to get wrong, each on a small input, computed.
 use mathlib.Core.Path.{_≡_, refl}
 use Prim.Native.Nat.{ℕ, _*_}
 use mathlib.Core.Bool.{true, false}

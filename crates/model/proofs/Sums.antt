@@ -1,4 +1,4 @@
--- The rows of 01's "Sums to prove together", each computed from the definitions.
+-- The worked figures (specification, 14), each computed from the definitions.
 use mathlib.Core.Path.{refl}
 use lib.Ieee as Ieee
 use Rattle.model.specs.Job.{entry}

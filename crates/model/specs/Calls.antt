@@ -113,7 +113,7 @@ startAnswer A = written (refusal StartPlan A)
 unfoldable pub solveAnswer : Arguments → Solved
 solveAnswer A = solved (refusal Solve A) (totals (taskOf A))
 
--- ---- 01's number and values for each case of an answer: 0 where it is accepted, and then its values
+-- ---- the number and the values for each case of an answer: 0 where it is accepted, and then its values
 
 pub record Said : Type 0 where
   pub number : ℕ

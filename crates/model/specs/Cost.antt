@@ -1,4 +1,4 @@
--- 01, "Cost": a whole number. Calls hand it out as the f64 of the same value.
+-- Specification, 3: a whole number. Calls hand it out as the f64 of the same value.
 use Prim.Native.Nat.{ℕ, suc, _+_, _-_, _*_}
 use mathlib.Core.List.{[], _∷_}
 use Rattle.model.specs.declared.Prices.{Prices}

@@ -1,4 +1,4 @@
--- 01, "Job file and printed columns" and refusal 14: a task as the bytes of its file, and an answer as the bytes that the program prints.
+-- Specification, 12, and refusal 14: a task as the bytes of its file, and an answer as the bytes that the program prints.
 use mathlib.Core.Path.{_≡_}
 use Prim.Native.Nat.{ℕ, zero, suc, _+_, _-_, _*_, _/_, _%_, _^_, _≤_, _<_}
 use mathlib.Core.Bool.{cond}
@@ -116,7 +116,7 @@ largestNumber = 4294967295
 pub record NoneOver (ns : List ℕ) : Type 0 where
   pub small : (i : ℕ) → getD ns i 0 ≤ largestNumber
 
--- v, n, l and the draw count within 01's limits, as many numbers as they say, and every number within its own limit; M has at most 14 digits
+-- v, n, l and the draw count within the limits, as many numbers as they say, and every number within its own limit; M has at most 14 digits
 pub record Readable (T : Task) : Type 0 where
   pub vehicles : vehicleCount (T .job) ≤ 16
   pub stops : stopCount (T .job) ≤ 64

@@ -1,4 +1,4 @@
--- 01, "The job": vehicles as start, end, start, end and so on, a location for each stop, and the distances row by row (row = from, column = to).
+-- Specification, 1: vehicles as start, end, start, end and so on, a location for each stop, and the distances row by row (row = from, column = to).
 use Prim.Native.Nat.{ℕ, _+_, _*_, _/_}
 use mathlib.Core.List.{List}
 use lib.ListN.{length, getD}

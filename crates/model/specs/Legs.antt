@@ -31,12 +31,12 @@ IsPlace J p = (p < stopCount J) ⊎ ((64 ≤ p) × (p < 64 + vehicleCount J))
 abbrev pub legAt : List ℕ → ℕ → ℕ → ℕ
 legAt table p q = entry table 80 p q
 
--- a list that can be read as a leg table: long enough, and no leg over 01's limit
+-- a list that can be read as a leg table: long enough, and no leg over the limit
 pub record LegTable (table : List ℕ) : Type 0 where
   pub long : length table ≡ 6400
   pub small : (i : ℕ) → getD table i 0 ≤ 200000
 
--- 01's limits on the prices
+-- the limits on the prices
 pub record Affordable (p : Prices) : Type 0 where
   pub linear : p .linear ≤ 1000000
   pub quadratic : p .quadratic ≤ 16

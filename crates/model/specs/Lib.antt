@@ -1,4 +1,4 @@
--- What the planner computes, as definitions on numbers and lists. Each is a sentence of the specification, 01, and every contract cites these.
+-- What the planner computes, as definitions on numbers and lists. docs/SPECIFICATION.md says the same in words, by sections, and every contract cites these.
 -- Read them in this order.
 pub mod Lists
 pub mod Whole

@@ -1,4 +1,4 @@
--- 01, "The plan": a route for each vehicle, and a route is the stops in order. `encode` is the form in which a plan is lent.
+-- Specification, 2: a route for each vehicle, and a route is the stops in order. `encode` is the form in which a plan is lent.
 use mathlib.Core.Path.{_≡_}
 use Prim.Native.Nat.{ℕ, suc, _+_, _-_, _≤_, _<_}
 use mathlib.Core.Bool.{Bool, cond, _&&_}
@@ -76,7 +76,7 @@ pub record Lent (v n : ℕ) (xs : List ℕ) : Type 0 where
   pub below : (s : ℕ) → 1 ≤ count s (concat (decode v xs)) → s < n
   pub once : Once (concat (decode v xs))
 
--- 01's limits on the numbers of vehicles and stops
+-- the limits on the numbers of vehicles and stops
 pub record Sizes (v n : ℕ) : Type 0 where
   pub vehicles : v ≤ 16
   pub stops : n ≤ 64

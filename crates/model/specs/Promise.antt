@@ -1,4 +1,4 @@
--- Demand 3: what is promised of every accepted run with a vehicle and two or more stops, whatever its draws are.
+-- Specification, 13: what is promised of every accepted run with a vehicle and two or more stops, whatever its draws are.
 -- It is one claim about the whole list of rounds, the answer and the plan that is left.
 use mathlib.Core.Path.{_≡_}
 use Prim.Native.Nat.{ℕ, suc, _+_, _*_, _≤_, _<_}
@@ -28,9 +28,9 @@ sufficient J =
     2 * D * J .prices .linear + 4 * (stopCount J + 1) * D * D * J .prices .quadratic
 
 pub record Promise (T : Task) (rs : List Round) (t : Totals) (P : Plan) : Type 0 where
-  -- made of 01's rounds: each later one begins with what the one before left
+  -- made of the rounds: each later one begins with what the one before left
   pub follows : Follows T (startState T) rs
-  -- up to 01's end rule: the stopping rule holds after no round but the last, and where it does not hold there the limit is reached
+  -- up to the end rule: the stopping rule holds after no round but the last, and where it does not hold there the limit is reached
   pub within : length rs ≤ T .limit
   pub notBefore : (i : ℕ) → suc i < length rs → ends (getD (map (λ (r : Round). r .end) rs) i (startState T)) ≡ false
   pub ended : ends (lastState (startState T) rs) ≡ false → length rs ≡ T .limit

@@ -1,4 +1,4 @@
--- 01, "One round", the rebuild, and both exhaustive solvers: every arrangement of some stops in some gaps of a plan, and the one that is kept.
+-- Specification, 7, the rebuild and both solvers for small jobs: every arrangement of some stops in some gaps of a plan, and the one that is kept.
 use mathlib.Core.Path.{_≡_}
 use Prim.Native.Nat.{ℕ, zero, suc, _≤_}
 use mathlib.Core.Bool.{Bool, cond, _&&_, _||_}

@@ -1,4 +1,4 @@
--- 01, "Who can stop a call": the condition of each number, one table with the order in which they are tested, and which calls test which.
+-- Specification, 10: the condition of each number, one table with the order in which they are tested, and which calls test which.
 -- (14 is found while reading a file: see File.)
 use Prim.Native.Nat.{ℕ, _+_, _*_, _%_}
 use mathlib.Core.Bool.{Bool, cond, _&&_, _||_, not}

@@ -1,4 +1,4 @@
--- 01, "One round", the region pass: which stretches of which routes are drained.
+-- Specification, 6: which stretches of which routes are drained.
 use Prim.Native.Nat.{ℕ, _+_, _-_, _*_, _/_, _≤_, _<_, min}
 use mathlib.Core.Bool.{cond}
 use mathlib.Core.List.{List, [], _∷_, map}

@@ -1,4 +1,4 @@
--- 01, "One round" and "Settling": a run is the list of its rounds, from the start plan up to the end rule.
+-- Specification, 9: a run is the list of its rounds, from the start plan up to the end rule.
 use Prim.Native.Nat.{ℕ, zero, suc, _+_, _-_, _%_}
 use mathlib.Core.Bool.{Bool, true, false, cond}
 use mathlib.Core.List.{List, [], _∷_}

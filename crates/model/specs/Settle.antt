@@ -1,4 +1,4 @@
--- 01, "Settling": the two averages, rounded operation by operation, and the stopping rule.
+-- Specification, 8: the two averages, rounded operation by operation, and the stopping rule.
 use Prim.Native.Nat.{ℕ, _-_}
 use mathlib.Core.Bool.{Bool, false, cond, _&&_}
 use lib.Dec.{leb, ltb}

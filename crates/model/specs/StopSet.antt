@@ -1,4 +1,4 @@
--- 01, "Rust that needs a new body": a set of stops is one 64-bit number, stop 0 its lowest bit; its ones count the stops placed.
+-- Specification, 2: a set of stops is one 64-bit number, stop 0 its lowest bit; its ones count the stops placed.
 use Prim.Native.Nat.{ℕ, zero, suc, _+_, _-_, _*_, _/_, _%_, _^_}
 use mathlib.Core.Bool.{Bool}
 use mathlib.Core.List.{List, [], _∷_}

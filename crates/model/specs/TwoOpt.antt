@@ -1,4 +1,4 @@
--- 01, "One round", the two-opt pass: the candidates of a pair of stops, and the one that is kept.
+-- Specification, 5: the candidates of a pair of stops, and the one that is kept.
 use Prim.Native.Nat.{ℕ, suc, _+_, min, max}
 use mathlib.Core.Bool.{Bool, true, false, cond, _&&_}
 use mathlib.Core.List.{List, [], _∷_, _++_, map, reverse}

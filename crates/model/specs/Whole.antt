@@ -1,4 +1,4 @@
--- Costs are handed out as f64. Within 01's limits each of them is a whole number, and the f64 is exactly that number.
+-- Costs are handed out as f64. Within the limits each of them is a whole number, and the f64 is exactly that number.
 use Prim.Native.Nat.{ℕ, _^_, _≤_}
 use mathlib.Core.Path.{_≡_}
 use lib.IntN.{pos}

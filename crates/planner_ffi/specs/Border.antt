@@ -42,7 +42,7 @@ resultsLeft (S.Ran t) old =
 abbrev pub results : Float → Float → ℕ → ℕ → ℕ → Results
 results start end rounds improving settled = record { start = start; end = end; rounds = rounds; improving = improving; settled = settled }
 
--- the same numbers as 01's values
+-- the same numbers as the answer's values
 abbrev pub valuesIn : Results → List ℕ
 valuesIn x = amount (x .start) ∷ amount (x .end) ∷ x .rounds ∷ x .improving ∷ x .settled ∷ []
 

@@ -1,4 +1,4 @@
--- Within 01's limits no plan of a job costs more than 2 ^ 53, whatever its stops are: at most 80 legs, each at most 200,000 long.
+-- Within the limits no plan of a job costs more than 2 ^ 53, whatever its stops are: at most 80 legs, each at most 200,000 long.
 use Prim.Native.Nat.{ℕ, suc, _+_, _-_, _*_, _≤_}
 use native.Mathlib.Nat.{le-trans}
 use native.Mathlib.Omega.{arith}

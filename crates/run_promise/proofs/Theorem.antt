@@ -1,4 +1,4 @@
--- Demand 3: what is promised of every accepted run with a vehicle and two or more stops, whatever its draws are.
+-- Specification, 13: what is promised of every accepted run with a vehicle and two or more stops, whatever its draws are.
 use mathlib.Core.Path.{_≡_, _∙_}
 use mathlib.Core.Bool.{true, and-eq-true-iff}
 use mathlib.Core.List.{List}

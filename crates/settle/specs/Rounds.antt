@@ -1,4 +1,4 @@
--- What a round makes of the averages: of any costs, as f64 are calculated, and of whole ones, as 01 has it.
+-- What a round makes of the averages: of any costs, as f64 are calculated, and of whole ones, as the specification has it.
 use mathlib.Core.Path.{_≡_}
 use mathlib.Core.Bool.{Bool, cond}
 use Prim.Native.Nat.{ℕ, _≤_}

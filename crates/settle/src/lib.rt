@@ -1,4 +1,4 @@
-// 01, "Settling": the two averages of a run, and the rule that stops it.
+// Specification, 8: the two averages of a run, and the rule that stops it.
 ghost use mathlib.Core.Path.{_≡_};
 ghost use Prim.Native.Nat.{_≤_};
 ghost use Rattle.model.specs.Settle.{noAverages, settles};
