@@ -10,7 +10,7 @@ use Rattle.model.specs.declared.Averages.{Averages}
 use Rattle.model.specs.Whole.{whole, exact}
 use Rattle.model.specs.Settle.{average, averaged, ratio, settles}
 use Rattle.whole.proofs.Laws.{lt-whole, sub-whole}
-use Rattle.settle.specs.Rounds.{moved, Rounded}
+use Rattle.settle.specs.Rounds.{moved, AfterRound}
 
 -- ---- the average: the new value where the old one is 0, and else the weighted one
 pub weighed : (c : ℕ) (old new : Float) (b : Bool) → eq old (whole 0) ≡ b
@@ -24,7 +24,7 @@ unfolding averaged
 averaged-moved c a m k = refl
 
 -- what an arm of the code returns, where `new < old` is as its test found it
-pub rounded : (c : ℕ) (a : Averages) (old new : Float) (b : Bool) (r : Averages) → lt new old ≡ b → r ≡ moved c a (sub binary64 old new) b → Rounded c a old new r
+pub rounded : (c : ℕ) (a : Averages) (old new : Float) (b : Bool) (r : Averages) → lt new old ≡ b → r ≡ moved c a (sub binary64 old new) b → AfterRound c a old new r
 rounded c a old new b r t e =
     record {
       floats = e ∙ ap (moved c a (sub binary64 old new)) (sym t);

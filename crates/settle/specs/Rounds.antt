@@ -15,6 +15,6 @@ abbrev pub moved : ℕ → Averages → Float → Bool → Averages
 moved c a d improves = both (average c (a .delta) d) (cond improves (average c (a .update) d) (a .update))
 
 -- r are the averages after a round that takes the cost from `old` to `new`
-pub record Rounded (c : ℕ) (a : Averages) (old new : Float) (r : Averages) : Type 0 where
+pub record AfterRound (c : ℕ) (a : Averages) (old new : Float) (r : Averages) : Type 0 where
   pub floats : r ≡ moved c a (sub binary64 old new) (lt new old)
   pub numbers : (m k : ℕ) → m ≤ exact → k ≤ exact → old ≡ whole m → new ≡ whole k → r ≡ averaged c a m k

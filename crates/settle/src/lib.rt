@@ -3,7 +3,7 @@ ghost use mathlib.Core.Path.{_≡_};
 ghost use Prim.Native.Nat.{_≤_};
 ghost use Rattle.model.specs.Settle.{noAverages, settles};
 ghost use Rattle.model.specs.Settle as Settle;
-ghost use Rattle.settle.specs.Rounds.{Rounded};
+ghost use Rattle.settle.specs.Rounds.{AfterRound};
 use model::Averages;
 
 // The averages that a run begins with.
@@ -31,7 +31,7 @@ fn average(old: f64, new: f64, smoothing: u32) -> f64
 // The averages after a round that takes the cost from `old` to `new`.
 pub fn after_round(a: Averages, old: f64, new: f64, smoothing: u32) -> Averages
     requires { ⌜ 1 ≤ smoothing ⌝ }
-    ensures { λ r. ⌜ Rounded smoothing a old new r ⌝ }
+    ensures { λ r. ⌜ AfterRound smoothing a old new r ⌝ }
 {
     let gain = old - new;
     let delta = average(a.delta, gain, smoothing);
