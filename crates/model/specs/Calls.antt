@@ -135,6 +135,7 @@ saidBySolved (S.Ran t) =
 
 -- ---- the number and values that a call has to say, in whole numbers
 
+-- refused (by a number above 0): the number alone; accepted: 0 and the values
 abbrev pub saying : ℕ → List ℕ → Said
 saying zero values = record { number = 0; values = values }
 saying (suc k) values = record { number = suc k; values = [] }
