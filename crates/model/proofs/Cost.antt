@@ -58,22 +58,6 @@ module _ (J : Job) where
   unfolding cost
   cost-is P = refl
 
-  -- ---- the legs of a route in two pieces
-
-  -- the leg from the first piece to any other location p stands on both sides
-  pub legs-append : (from : ℕ) (xs ys : Route) (to p : ℕ)
-      → legs J from (xs ++ ys) to + distance J (lastLocation J from xs) p ≡ legs J from xs p + legs J (lastLocation J from xs) ys to
-  legs-append from [] ys to p = omega (arith, legs-nil from p)
-  legs-append from (s ∷ xs) ys to p =
-      omega (arith, legs-cons from s (xs ++ ys) to, legs-cons from s xs p, legs-append (locationOf J s) xs ys to p)
-
-  -- the second piece begins with a stop
-  pub legs-through : (from : ℕ) (xs : Route) (s : ℕ) (ys : Route) (to : ℕ)
-      → legs J from (xs ++ s ∷ ys) to ≡ legs J from xs (locationOf J s) + legs J (locationOf J s) ys to
-  legs-through from [] s ys to = omega (arith, legs-cons from s ys to, legs-nil from (locationOf J s))
-  legs-through from (x ∷ xs) s ys to =
-      omega (arith, legs-cons from x (xs ++ s ∷ ys) to, legs-cons from x xs (locationOf J s), legs-through (locationOf J x) xs s ys to)
-
   -- no leg is longer than D
   pub legs-le : (D : ℕ) → ((a b : ℕ) → distance J a b ≤ D) → (from : ℕ) (r : Route) (to : ℕ) → legs J from r to ≤ suc (length r) * D
   legs-le D h from [] to = omega (arith, legs-nil from to, h from to)

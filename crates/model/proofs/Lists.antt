@@ -82,9 +82,6 @@ module _ {A : Type 0} where
   pub length-part : (a b : ℕ) (xs : List A) → b ≤ length xs → length (part a b xs) ≡ b - a
   length-part a b xs h = simp (length-take, length-drop) (omega arith)
 
-  pub part-empty : (a : ℕ) (xs : List A) → part a a xs ≡ []
-  part-empty a xs = let e : a - a ≡ 0 = omega arith in rw e
-
   pub part-end : (a : ℕ) (xs : List A) → part a (length xs) xs ≡ drop a xs
   part-end a xs = take-all (length xs - a) (drop a xs) (omega (arith, length-drop a xs))
 
@@ -167,12 +164,6 @@ module _ {A : Type 0} where
   change-none k f [] d e = refl
   change-none zero f (x ∷ xs) d e = rw e
   change-none (suc k) f (x ∷ xs) d e = rw (change-none k f xs d e)
-
-  -- a place past the end
-  pub change-out : (k : ℕ) (f : A → A) (xs : List A) → length xs ≤ k → change k f xs ≡ xs
-  change-out k f [] h = refl
-  change-out zero f (x ∷ xs) h = absurd (omega arith)
-  change-out (suc k) f (x ∷ xs) h = rw (change-out k f xs (le-of-suc-le-suc h))
 
 module _ {A B : Type 0} where
   pub map-change : (h : A → B) (k : ℕ) (f : A → A) (g : B → B) (xs : List A) → ((x : A) → h (f x) ≡ g (h x)) → map h (change k f xs) ≡ change k g (map h xs)

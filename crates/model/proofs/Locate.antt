@@ -87,10 +87,3 @@ vehicle-only s P k o m = go (decLt k (vehicleOf s P)) (decLt (vehicleOf s P) k)
         let on : isPlaced s P ≡ true = route-placed s P k m in
         absurd (omega (arith, two-routes s P (vehicleOf s P) k g (member-count s (routeOf P (vehicleOf s P)) (vehicle-has s P on)) (member-count s (routeOf P k) m), o s))
     go (no h) (no g) = omega arith
-
--- so a place of a plan is that of its stop
-pub stop-found : (s : ℕ) (P : Plan) (k i : ℕ) → Once (concat P) → i < length (routeOf P k) → getD (routeOf P k) i 0 ≡ s
-    → (vehicleOf s P ≡ k) × (position s (routeOf P k) ≡ i)
-stop-found s P k i o h e =
-    let m : member s (routeOf P k) ≡ true = rw e at (member-at (routeOf P k) i h) in
-    (vehicle-only s P k o m, position-of s (routeOf P k) i (once-route P k o) h e)
