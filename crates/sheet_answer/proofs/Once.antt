@@ -1,6 +1,6 @@
 -- The sheets that stand one after another in some bytes, up to their end or to where none stands, are known from the bytes.
 use mathlib.Core.Path.{_≡_, refl, sym, _∙_, ap, subst}
-use Prim.Native.Nat.{ℕ, _+_, _≤_}
+use Prim.Native.Nat.{ℕ}
 use native.Mathlib.Omega.{arith}
 use mathlib.Core.List.{List, [], _∷_, _++_, append-assoc}
 use lib.ListN.{length, length-append}
