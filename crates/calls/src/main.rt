@@ -80,7 +80,7 @@ fn print(text: &[u8]) -> bool {
 }
 
 // Answers sheet after sheet. A proved loop has to end, and nothing says that the input does: so the loop counts its turns down,
-// from a number that no run uses up.
+// from a number (2^53) that no run uses up and after which the bytes printed can still be counted.
 fn answer_all(bytes: &mut [u8], start: usize, stop: usize, out: &mut [u8]) -> Ended
     requires { ⌜ Ready start stop (now bytes) ⌝ }
     requires { ⌜ length (now out) ≡ mostForSheet ⌝ }
