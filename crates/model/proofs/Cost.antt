@@ -5,7 +5,7 @@ use native.Mathlib.Nat.{le-of-suc-le-suc, zero-add, add-zero, add-suc, suc-add, 
 use native.Mathlib.Decide.{decLt}
 use mathlib.Core.Path.{_≡_, refl, sym, _∙_}
 use mathlib.Core.Logic.{_≢_}
-use mathlib.Core.List.{[], _∷_, _++_}
+use mathlib.Core.List.{[], _∷_}
 use lib.Dec.{ltb}
 use lib.ListN.{length}
 use borrow.Author.Tests.{lt-ltb, le-ltb}
@@ -13,7 +13,6 @@ use Rattle.model.specs.declared.Prices.{Prices}
 use Rattle.model.specs.Lists.{change}
 use Rattle.model.specs.Job.{Job, stopCount, startOf, endOf, locationOf, distance}
 use Rattle.model.specs.Plan.{Plan, Route, routeOf, placed}
-use Rattle.model.specs.Nearest.{lastLocation}
 use Rattle.model.specs.TwoOpt.{setRoute}
 use Rattle.model.specs.Cost.{legs, routeLength, price, drivingFrom, drivingCost, missedCost, cost}
 use Rattle.model.proofs.Lists.{length-change, getD-change-other}

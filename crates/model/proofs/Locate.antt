@@ -7,12 +7,12 @@ use mathlib.Core.Path.{_≡_, refl, sym, _∙_}
 use mathlib.Core.Bool.{Bool, true, false, cond, _||_, true≢false}
 use mathlib.Core.List.{[], _∷_}
 use lib.Dec.{ltb, leb·suc-suc}
-use lib.ListN.{length, getD}
+use lib.ListN.{length}
 use borrow.Author.Tests.{ltb-true, ltb-false, lt-ltb}
 use Rattle.model.specs.Lists.{concat, member, position, count, Once}
 use Rattle.model.specs.Plan.{Plan, routeOf, vehicleOf, isPlaced}
-use Rattle.model.proofs.Lists.{member-append, member-at, member-count, count-member, count-append, position-lt, position-of}
-use Rattle.model.proofs.Counts.{count-route, once-route}
+use Rattle.model.proofs.Lists.{member-append, member-count, count-member, count-append, position-lt}
+use Rattle.model.proofs.Counts.{count-route}
 
 located-is : (s : ℕ) (P : Plan) → isPlaced s P ≡ ltb (vehicleOf s P) (length P)
 located-is s [] = refl
