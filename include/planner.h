@@ -76,7 +76,7 @@ uint32_t planner_two_opt(
     uint32_t first, uint32_t second,
     double *cost);
 
-/* Rebuilds a plan round one or two given stops. Writes the plan and its cost. */
+/* Rebuilds a plan around one or two given stops. Writes the plan and its cost. */
 uint32_t planner_rebuild(
     const uint32_t *vehicles, size_t vehicles_len,
     const uint32_t *stops, size_t stops_len,

@@ -5,7 +5,7 @@ use native.Mathlib.Omega.{arith}
 use native.Mathlib.Numerals.{add-one}
 use mathlib.Core.Logic.{inl, inr}
 use mathlib.Core.List.{List, [], _∷_, _++_, reverse, reverse-cons}
-use lib.ListN.{length, getD, take, drop, drop-of-length-le}
+use lib.ListN.{length, getD, take, drop, length-take, length-drop, drop-of-length-le}
 use lib.Seq.{drop-cons, take-suc}
 use borrow.Author.Tests.{lt-ltb, le-ltb, eq-eqb}
 use Rattle.model.specs.Job.{Job, startOf, endOf, locationOf, entry, distance}
@@ -13,6 +13,8 @@ use Rattle.model.specs.Plan.{Route}
 use Rattle.model.specs.Legs.{leaves, reaches, legAt, depot, IsPlace, LegTable, Fits}
 use Rattle.model.specs.Cost.{legs, routeLength}
 use Rattle.model.specs.declared.Prices.{Prices}
+use Rattle.model.proofs.Lists.{one-same}
+use Rattle.model.proofs.Counts.{count-take-le, count-drop-le}
 use Rattle.distance.specs.Ways.{tableLegs, walked, walkedBack, lastPlace, Below, Drivable, RouteLength}
 
 -- ---- stops of a route
@@ -162,3 +164,16 @@ route-length-is t k r d h D e =
       way = e;
       job = λ J v n p F K N. e ∙ way-route J t v n p F k r K N (D .stops);
     }
+
+-- ---- routes within the table
+
+-- the last place of a way is a place of the table
+pub last-near : (a : ℕ) (r : Route) → a < 80 → Below 64 r → lastPlace a r < 80
+last-near a [] h b = h
+last-near a (s ∷ r) h b = last-near s r (omega (arith, b s (omega (arith, one-same s s refl)))) (λ x k. b x (omega arith))
+
+pub drivable-take : (k : ℕ) (r : Route) → Drivable r → Drivable (take k r)
+drivable-take k r d = record { few = omega (arith, length-take k r, d .few); stops = λ s h. d .stops s (omega (arith, count-take-le s k r)) }
+
+pub drivable-drop : (k : ℕ) (r : Route) → Drivable r → Drivable (drop k r)
+drivable-drop k r d = record { few = omega (arith, length-drop k r, d .few); stops = λ s h. d .stops s (omega (arith, count-drop-le s k r)) }

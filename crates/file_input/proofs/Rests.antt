@@ -9,7 +9,7 @@ use lib.ListN.{length, getD, take, drop, set, length-drop}
 use lib.Seq.{take-at, take-all, take-suc, drop-cons, append-snoc, length-take-le, set-at, getD-append-add, getD-drop}
 use Rattle.file_input.specs.declared.Filled.{Filled}
 use Rattle.file_input.specs.declared.Filled.the-variants.{Bytes, Failed}
-use Rattle.file_input.specs.Filling.{FilledFrom, Kept, Refilled}
+use Rattle.file_input.specs.Filling.{FilledFrom, Shifted, Refilled}
 
 -- i bytes are moved
 abbrev pub Moved : ℕ → List ℕ → List ℕ → ℕ → Type 0
@@ -40,7 +40,7 @@ module _ (from : ℕ) (old new : List ℕ) (room : from ≤ length old) (i : ℕ
         append-snoc,
       )
 
-  pub all-moved : (n : ℕ) → n ≡ length old - from → i ≡ n → length new ≡ length old → Kept from old new n
+  pub all-moved : (n : ℕ) → n ≡ length old - from → i ≡ n → length new ≡ length old → Shifted from old new n
   all-moved n e j l =
       let a = take i (drop from old) in
       let w : length a ≡ n = front-length (omega arith) ∙ j in
@@ -51,7 +51,7 @@ module _ (from : ℕ) (old new : List ℕ) (room : from ≤ length old) (i : ℕ
       }
 
 -- what is filled after the rest
-pub refilled : (from : ℕ) (old kept new : List ℕ) (n : ℕ) → Kept from old kept n → (a : Filled) → FilledFrom n kept new a → Refilled from old new a
+pub refilled : (from : ℕ) (old kept new : List ℕ) (n : ℕ) → Shifted from old kept n → (a : Filled) → FilledFrom n kept new a → Refilled from old new a
 refilled from old kept new n k (Bytes x) f =
     (omega (arith, f .0, k .count), omega (arith, f .1, k .long), ap (λ y. take y new) (sym (k .count)) ∙ f .2 ∙ k .front)
 refilled from old kept new n k Failed f = ap (λ y. take y new) (sym (k .count)) ∙ f ∙ k .front

@@ -12,7 +12,7 @@ FilledFrom at old new (Bytes n) = (at ≤ n) × (n ≤ length old) × (take at n
 FilledFrom at old new Failed = take at new ≡ take at old
 
 -- so many bytes, those from a position on, stand at the front
-pub record Kept (from : ℕ) (old new : List ℕ) (r : ℕ) : Type 0 where
+pub record Shifted (from : ℕ) (old new : List ℕ) (r : ℕ) : Type 0 where
   pub count : r ≡ length old - from
   pub long : length new ≡ length old
   pub front : take r new ≡ drop from old

@@ -1,7 +1,7 @@
 // Reading standard input, or another descriptor, into a buffer.
 ghost use Prim.Native.Nat.{_≤_};
 ghost use lib.ListN.{length};
-ghost use Rattle.file_input.specs.Filling.{FilledFrom, Kept, Refilled};
+ghost use Rattle.file_input.specs.Filling.{FilledFrom, Shifted, Refilled};
 
 // How many bytes of a buffer are filled, or that a read failed.
 pub enum Filled {
@@ -43,7 +43,7 @@ pub fn fill(fd: i32, buf: &mut [u8], from: usize) -> Filled
 // Moves the bytes from a position on to the front of a buffer: how many they are.
 fn keep_rest(buf: &mut [u8], from: usize) -> usize
     requires { ⌜ from ≤ length (now buf) ⌝ }
-    ensures { λ r. ⌜ Kept from (now (buf .entry)) (now (buf .exit)) r ⌝ }
+    ensures { λ r. ⌜ Shifted from (now (buf .entry)) (now (buf .exit)) r ⌝ }
 {
     let n = buf.len() - from;
     let mut i: usize = 0;

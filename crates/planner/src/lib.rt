@@ -86,7 +86,7 @@ pub fn two_opt(
     Weighed::Cost(delivery::cost(&legs, v, n, prices, plan))
 }
 
-// Rebuilds a plan round one or two stops, and weighs it.
+// Rebuilds a plan around one or two stops, and weighs it.
 pub fn rebuild(
     vehicles: &[u32],
     stops: &[u32],

@@ -127,7 +127,7 @@ pub extern "C" fn planner_two_opt(
     hand_cost(answer, cost)
 }
 
-// Rebuilds a plan round one or two stops, and weighs it.
+// Rebuilds a plan around one or two stops, and weighs it.
 #[no_mangle]
 pub extern "C" fn planner_rebuild(
     vehicles: &[u32],

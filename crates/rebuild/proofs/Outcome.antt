@@ -1,4 +1,4 @@
--- The best arrangement of the regions round the picks is the rebuild.
+-- The best arrangement of the regions around the picks is the rebuild.
 use Prim.Native.Nat.{ℕ, _*_, _≤_}
 use mathlib.Core.Path.{_≡_}
 use mathlib.Core.List.{List}

@@ -1,4 +1,4 @@
--- The regions round the picks: as the arrangement reads them, and how many stops they drain.
+-- The regions around the picks: as the arrangement reads them, and how many stops they drain.
 use Prim.Native.Nat.{ℕ, zero, suc, _+_, _-_, _*_, _/_, _≤_, _<_}
 use native.Mathlib.Omega.{arith}
 use native.Mathlib.Nat.{div-add-mod'}

@@ -12,7 +12,7 @@ use Rattle.model.specs.Rebuild.{rebuild}
 use Rattle.model.specs.declared.Prices.{Prices}
 use Rattle.delivery.specs.Costs.{Costs}
 
--- zs is the lent plan xs rebuilt round the picks, for every job that fits, and r is its cost
+-- zs is the lent plan xs rebuilt around the picks, for every job that fits, and r is its cost
 pub record Rebuilt (t : List ℕ) (v n : ℕ) (p : Prices) (xs picks zs : List ℕ) (r : Float) : Type 0 where
   pub lent : Lent v n zs
   pub costs : Costs t v n p (decode v zs) r

@@ -1,11 +1,11 @@
-// The rebuild: the stops of the regions round the picks are arranged anew, and the best arrangement takes the plan's place.
+// The rebuild: the stops of the regions around the picks are arranged anew, and the best arrangement takes the plan's place.
 ghost use Prim.Native.Nat.{_≤_};
 ghost use lib.ListN.{length};
 ghost use Rattle.delivery.specs.Costs.{Ready};
 ghost use Rattle.rebuild.specs.Rebuilt.{Rebuilt};
 use model::Prices;
 
-// Rebuilds the regions round one or two picks, and returns the new cost. Where no pick is placed there is no region, and nothing changes.
+// Rebuilds the regions around one or two picks, and returns the new cost. Where no pick is placed there is no region, and nothing changes.
 pub fn rebuild(
     legs: &[u32],
     v: usize,

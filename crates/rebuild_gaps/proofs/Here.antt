@@ -29,7 +29,8 @@ use Rattle.rebuild_survey.specs.Surveys.{beforeOf, headOf}
 use Rattle.rebuild_gaps.specs.declared.Stand.{Stand}
 use Rattle.rebuild_gaps.specs.Stands.{closed, vacant, Closable, Closes, Opens, Steps}
 use Rattle.rebuild_gaps.specs.Here.{Ground, planAt, wayOf, upTo, Here}
-use Rattle.rebuild_survey.proofs.Ways.{last-near, way-on}
+use Rattle.distance.proofs.Laws.{last-near}
+use Rattle.rebuild_survey.proofs.Ways.{way-on}
 use Rattle.rebuild_gaps.proofs.Driving.{table-change, route-le}
 use Rattle.rebuild_gaps.proofs.Stands.{closes-whole, opens-whole}
 

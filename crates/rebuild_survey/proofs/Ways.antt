@@ -3,23 +3,17 @@ use mathlib.Core.Path.{_≡_, refl, sym, ap, ap₂, _∙_}
 use Prim.Native.Nat.{ℕ, _+_, _*_, _≤_, _<_}
 use native.Mathlib.Omega.{arith}
 use mathlib.Core.List.{List, [], _∷_}
-use lib.ListN.{length, getD, take, drop, length-take, length-drop, drop-of-length-le}
+use lib.ListN.{length, getD, take, drop, drop-of-length-le}
 use native.Mathlib.Numerals.{add-one}
 use lib.Seq.{drop-cons, take-all}
 use Rattle.model.specs.Plan.{Route}
 use Rattle.model.specs.Legs.{legAt, depot}
-use Rattle.model.proofs.Lists.{one-same}
-use Rattle.model.proofs.Counts.{below-at, count-take-le, count-drop-le}
-use Rattle.distance.specs.Ways.{tableLegs, walked, lastPlace, Below, Drivable}
+use Rattle.model.proofs.Counts.{below-at}
+use Rattle.distance.specs.Ways.{tableLegs, walked, lastPlace, Below}
 use Rattle.distance.proofs.Laws.{walked-more, last-more, way-last}
 use Rattle.rebuild_survey.specs.declared.Way.{Way}
 use Rattle.rebuild_survey.specs.declared.Gap.{Gap}
 use Rattle.rebuild_survey.specs.Ways.{firstPlace, wayOn, Stepped, Measured}
-
--- places of the table
-pub last-near : (a : ℕ) (r : Route) → a < 80 → Below 64 r → lastPlace a r < 80
-last-near a [] h b = h
-last-near a (s ∷ r) h b = last-near s r (omega (arith, b s (omega (arith, one-same s s refl)))) (λ x k. b x (omega arith))
 
 -- a way is the leg to its first place, and the way on from there
 pub way-on : (t : List ℕ) (a : ℕ) (r : Route) (to : ℕ) → tableLegs t a r to ≡ legAt t a (firstPlace to r) + wayOn t r to
@@ -58,12 +52,6 @@ module _ (t : List ℕ) (a : ℕ) (r : Route) where
       record { length = el ∙ rw e at (g .gone); last = ew ∙ rw e at (g .at); near = omega (arith, g .near); short = omega (arith, g .small, g .upTo) }
 
 -- ---- a route that has a gap
-
-pub drivable-take : (k : ℕ) (r : Route) → Drivable r → Drivable (take k r)
-drivable-take k r d = record { few = omega (arith, length-take k r, d .few); stops = λ s h. d .stops s (omega (arith, count-take-le s k r)) }
-
-pub drivable-drop : (k : ℕ) (r : Route) → Drivable r → Drivable (drop k r)
-drivable-drop k r d = record { few = omega (arith, length-drop k r, d .few); stops = λ s h. d .stops s (omega (arith, count-drop-le s k r)) }
 
 module _ (t : List ℕ) (k : ℕ) (r : Route) (from to : ℕ) (head : Way) (H : Stepped t (depot k) (take from r) head) (small : k < 16) where
   -- no stop comes after the gap

@@ -1,4 +1,4 @@
-// One round: the two-opt pass at a drawn stop, the rebuild round the picks, and what is carried on to the next.
+// One round: the two-opt pass at a drawn stop, the rebuild around the picks, and what is carried on to the next.
 ghost use mathlib.Core.Path.{_≡_};
 ghost use Prim.Native.Nat.{ℕ, _<_, _≤_};
 ghost use mathlib.Core.Bool.{cond};

@@ -82,7 +82,7 @@ pub fn two_opt(
     sheet_lines::print_weighed(answer, plan, out)
 }
 
-// Rebuilds round the given stops, and prints the same.
+// Rebuilds around the given stops, and prints the same.
 pub fn rebuild(
     vehicles: &[u32],
     stops: &[u32],

@@ -72,7 +72,7 @@ fn all_pairs(legs: &[u32], v: usize, n: usize, prices: Prices, plan: &mut [u32],
     }
 }
 
-// The two-opt pass round a stop x, of which S(x) is given: all pairs of its first ten. Of any other list too it takes the pairs of the first ten.
+// The two-opt pass around a stop x, of which S(x) is given: all pairs of its first ten. Of any other list too it takes the pairs of the first ten.
 pub fn pass(legs: &[u32], v: usize, n: usize, prices: Prices, plan: &mut [u32], near: &[u32])
     requires { ⌜ Ready (now legs) v n prices (now plan) ⌝ }
     requires { ⌜ Once (now near) ⌝ }

@@ -8,10 +8,10 @@ use lib.ListN.{length, getD, take, drop, length-take, length-drop, length-revers
 use lib.Seq.{take-suc, drop-cons}
 use Rattle.model.specs.Plan.{Route}
 use Rattle.model.specs.Legs.{legAt, depot, LegTable}
-use Rattle.model.proofs.Counts.{count-reverse, count-take-le, count-drop-le}
-use Rattle.model.proofs.Lists.{one-same, take-reverse, drop-reverse}
+use Rattle.model.proofs.Counts.{count-reverse}
+use Rattle.model.proofs.Lists.{take-reverse, drop-reverse}
 use Rattle.distance.specs.Ways.{tableLegs, walked, walkedBack, lastPlace, Below, Drivable}
-use Rattle.distance.proofs.Laws.{walked-append, back-append, last-append, walked-small, back-small, way-append, way-reverse}
+use Rattle.distance.proofs.Laws.{last-near, drivable-take, drivable-drop, walked-append, back-append, last-append, walked-small, back-small, way-append, way-reverse}
 use Rattle.two_opt_cuts.specs.declared.End.{End}
 use Rattle.two_opt_cuts.specs.declared.Ends.{Ends}
 use Rattle.two_opt_cuts.specs.declared.Cut.{Cut}
@@ -35,10 +35,6 @@ module _ (t : List ℕ) (k : ℕ) where
 
 -- ---- few stops
 
-last-near : (a : ℕ) (xs : Route) → a < 80 → Below 64 xs → lastPlace a xs < 80
-last-near a [] h b = h
-last-near a (s ∷ xs) h b = last-near s xs (omega (arith, b s (omega (arith, one-same s s refl)))) (λ x k. b x (omega arith))
-
 module _ {t : List ℕ} (h : LegTable t) where
   end-short : {k : ℕ} {xs : Route} {e : End} (m : ℕ) → k < 16 → Below 64 xs → length xs ≤ m → EndOf t k xs e → Short m e
   end-short {k} {xs} {e} m hk b l E = record {
@@ -49,15 +45,6 @@ module _ {t : List ℕ} (h : LegTable t) where
 
   pub ends-short : {a b : ℕ} {xs : Route} {e : Ends} (m : ℕ) → a < 16 → b < 16 → Below 64 xs → length xs ≤ m → EndsOf t a b xs e → Shorts m e
   ends-short m ha hb b l E = (end-short m ha b l (E .0), end-short m hb b l (E .1))
-
--- ---- a part of a route
-
-module _ (i : ℕ) (r : Route) (D : Drivable r) where
-  pub drivable-take : Drivable (take i r)
-  drivable-take = record { few = omega (arith, length-take i r, D .few); stops = λ s h. D .stops s (omega (arith, count-take-le s i r)) }
-
-  pub drivable-drop : Drivable (drop i r)
-  drivable-drop = record { few = omega (arith, length-drop i r, D .few); stops = λ s h. D .stops s (omega (arith, count-drop-le s i r)) }
 
 -- from the front up to i or from the back down to i
 

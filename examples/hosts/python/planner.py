@@ -108,7 +108,7 @@ def two_opt(job, plan, first, second):
 
 
 def rebuild(job, plan, given):
-    """The plan rebuilt round one or two stops, and its cost."""
+    """The plan rebuilt around one or two stops, and its cost."""
     return _weighed("planner_rebuild", job, plan, *_list(given))
 
 

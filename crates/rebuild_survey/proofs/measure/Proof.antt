@@ -7,7 +7,8 @@ use lib.Seq.{length-take-le}
 use Rattle.model.proofs.Counts.{below-at}
 use Rattle.distance.specs.Ways.{Drivable}
 use Rattle.model.proofs.Lists.{part-end}
-use Rattle.rebuild_survey.proofs.Ways.{drivable-take, drivable-drop, measured-end, measured-on}
+use Rattle.distance.proofs.Laws.{drivable-take, drivable-drop}
+use Rattle.rebuild_survey.proofs.Ways.{measured-end, measured-on}
 use borrow.Author.Needs.{needs}
 use Rattle.rebuild_survey.proofs.measure.Statement.{statement}
 use Rattle.rebuild_survey.proofs.measure.Tie as tie

@@ -6,7 +6,8 @@ use lib.Seq.{length-take-le}
 use denote.Ref.{now}
 use Rattle.model.proofs.Lists.{part-end}
 use Rattle.model.proofs.Counts.{below-at}
-use Rattle.two_opt_cuts.proofs.Laws.{drivable-take, drivable-drop, head-room, tail-room, head-more, tail-more}
+use Rattle.distance.proofs.Laws.{drivable-take, drivable-drop}
+use Rattle.two_opt_cuts.proofs.Laws.{head-room, tail-room, head-more, tail-more}
 use Rattle.two_opt_cuts.proofs.cut_at.Statement.{statement}
 use Rattle.two_opt_cuts.proofs.cut_at.Tie as tie
 

@@ -129,7 +129,7 @@ pub fn two_opt(job: &Job, plan: &mut [u32], [first, second]: [u32; 2]) -> Result
     answer(number, cost)
 }
 
-/// Rebuilds a plan round one or two stops, and answers its cost.
+/// Rebuilds a plan around one or two stops, and answers its cost.
 #[rustfmt::skip]
 pub fn rebuild(job: &Job, plan: &mut [u32], given: &[u32]) -> Result<f64, Refusal> {
     let mut cost = 0.0;
