@@ -31,7 +31,7 @@ returns c =
 
 fill-at-requires : tie.Need-fill-at-requires
 fill-at-requires c κs =
-    let h = c .before .before .before .before .before in
+    let h = header c in
     let called = h .before .before .check-at in
     loadable _ _ (called .result) (called .ensures) _ (h .h .given .1) _ (start (h .before .before) .pre)
 
