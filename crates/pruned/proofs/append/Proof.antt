@@ -12,7 +12,7 @@ use Rattle.pruned.proofs.append.Tie as tie
 abbrev pasted : tie.After-paste2 → tie.After-paste
 pasted c = c .before .before .before .before .before
 
--- where the place of the vehicle is known
+-- where the place for the new stop is known
 abbrev found : tie.After-paste2 → tie.After-offset
 found c = pasted c .before .before .before
 
