@@ -13,6 +13,10 @@ Inv-loop bytes at value₀ i₀ value i = Read bytes at value i
 abbrev μ-loop : tie.MeasureT-loop
 μ-loop bytes at value₀ i₀ value i = 13 - i
 
+-- where the function began, from the loop
+abbrev start : tie.At-loop Inv-loop μ-loop → tie.Start Inv-loop μ-loop
+start c = c .before .before .before .before
+
 returns : tie.Need-returns Inv-loop μ-loop
 returns c = let s = c .before .before .args in no-room (s .bytes .now) (s .at) (omega arith)
 
@@ -44,7 +48,7 @@ returns-3 : tie.Need-returns-3 Inv-loop μ-loop
 returns-3 c =
     let called = c .before .before .next-column in
     let loop = c .before .before .before .before .before .loop in
-    let s = c .before .before .before .before .before .before .before .before .before .args in
+    let s = start (c .before .before .before .before .before) .args in
     no-field (s .bytes .now) (s .at) (omega arith) (loop .value) (loop .i) (called .result) (omega arith)
     (loop .inv) (called .ensures) (c .enum-told .given .1)
 
@@ -58,7 +62,7 @@ loop-again : tie.Need-loop-again Inv-loop μ-loop
 loop-again c =
     let called = c .before .before .before .next-column in
     let loop = c .before .before .before .before .before .before .loop in
-    let s = c .before .before .before .before .before .before .before .before .before .before .args in
+    let s = start (c .before .before .before .before .before .before) .args in
     read-more (s .bytes .now) (s .at) (omega arith) (loop .value) (loop .i) (c .before .next .given .0 .0) (called .result) (omega arith)
     (loop .inv) (called .ensures) (c .before .next .given .1)
 
@@ -70,12 +74,12 @@ shared-slice-read-last c = omega arith
 
 returns-4 : tie.Need-returns-4 Inv-loop μ-loop
 returns-4 c =
-    let s = c .before .before .before .before .before .before .before .args in
+    let s = start (c .before .before .before) .args in
     no-last-digit (s .bytes .now) (s .at) (omega arith) (inl (omega arith))
 
 returns-5 : tie.Need-returns-5 Inv-loop μ-loop
 returns-5 c =
-    let s = c .before .before .before .before .before .before .before .before .args in
+    let s = start (c .before .before .before .before) .args in
     no-last-digit (s .bytes .now) (s .at) (omega arith) (inr (omega arith))
 
 mul-t17 : tie.Need-mul-t17 Inv-loop μ-loop
@@ -90,7 +94,7 @@ add-t19 c = omega (arith, read-small (c .before .before .before .before .loop .i
 returns-6 : tie.Need-returns-6 Inv-loop μ-loop
 returns-6 c =
     let loop = c .before .before .before .before .loop in
-    let s = c .before .before .before .before .before .before .before .before .args in
+    let s = start (c .before .before .before .before) .args in
     whole-field (s .bytes .now) (s .at) (omega arith) (loop .value) (loop .i) (omega arith) (loop .inv) (omega arith) (omega arith)
 
 pub read-field-spec : {M : Type 1} → statement M

@@ -14,6 +14,10 @@ Inv-loop fd buf₀ from at₀ buf at = (from ≤ at) × (at ≤ length buf) × (
 abbrev μ-loop : tie.MeasureT-loop
 μ-loop fd buf₀ from at₀ buf at = length buf - at
 
+-- where the function began, from the loop
+abbrev start : tie.At-loop Inv-loop μ-loop → tie.Start Inv-loop μ-loop
+start c = c .before .before
+
 loop-holds : tie.Need-loop-holds Inv-loop μ-loop
 loop-holds c = search needs
 
@@ -31,28 +35,36 @@ same-length c = search needs
 
 returns : tie.Need-returns Inv-loop μ-loop
 returns c =
-    let i = c .before .before .before .before .before .before .before .loop .inv in
-    still-failed (c .before .before .before .before .before .before .before .before .before .args .from) (c .before .before .before .before .before .before .before .loop .at) (c .before .before .before .before .before .before .before .before .before .args .buf .now) (c .before .before .before .before .before .before .before .loop .buf) _ (i .0) (i .3) _ (c .before .before .before .before .read-once .ensures) (c .enum-told .given .1)
+    let r = c .before .before .before .before in
+    let l = r .before .before .before in
+    let i = l .loop .inv in
+    still-failed (start l .args .from) (l .loop .at) (start l .args .buf .now) (l .loop .buf) _ (i .0) (i .3) _ (r .read-once .ensures) (c .enum-told .given .1)
 
 same-length-2 : tie.Need-same-length-2 Inv-loop μ-loop
 same-length-2 c = search needs
 
 returns-2 : tie.Need-returns-2 Inv-loop μ-loop
 returns-2 c =
-    let i = c .before .before .before .before .before .before .before .before .before .loop .inv in
-    let f = filled-on (c .before .before .before .before .before .before .before .before .before .before .before .args .from) (c .before .before .before .before .before .before .before .before .before .loop .at) (c .before .before .before .before .before .before .before .before .before .before .before .args .buf .now) (c .before .before .before .before .before .before .before .before .before .loop .buf) _ (i .0) (i .3) _ (c .before .before .before .before .before .before .read-once .ensures) _ (c .before .before .next .given .1) in
+    let r = c .before .before .before .before .before .before in
+    let l = r .before .before .before in
+    let i = l .loop .inv in
+    let f = filled-on (start l .args .from) (l .loop .at) (start l .args .buf .now) (l .loop .buf) _ (i .0) (i .3) _ (r .read-once .ensures) _ (c .before .before .next .given .1) in
     (omega arith, omega arith, f .2)
 
 loop-less : tie.Need-loop-less Inv-loop μ-loop
 loop-less c =
-    let i = c .before .before .before .before .before .before .before .before .before .loop .inv in
-    let f = filled-on (c .before .before .before .before .before .before .before .before .before .before .before .args .from) (c .before .before .before .before .before .before .before .before .before .loop .at) (c .before .before .before .before .before .before .before .before .before .before .before .args .buf .now) (c .before .before .before .before .before .before .before .before .before .loop .buf) _ (i .0) (i .3) _ (c .before .before .before .before .before .before .read-once .ensures) _ (c .before .before .next .given .1) in
+    let r = c .before .before .before .before .before .before in
+    let l = r .before .before .before in
+    let i = l .loop .inv in
+    let f = filled-on (start l .args .from) (l .loop .at) (start l .args .buf .now) (l .loop .buf) _ (i .0) (i .3) _ (r .read-once .ensures) _ (c .before .before .next .given .1) in
     omega arith
 
 loop-again : tie.Need-loop-again Inv-loop μ-loop
 loop-again c =
-    let i = c .before .before .before .before .before .before .before .before .before .loop .inv in
-    let f = filled-on (c .before .before .before .before .before .before .before .before .before .before .before .args .from) (c .before .before .before .before .before .before .before .before .before .loop .at) (c .before .before .before .before .before .before .before .before .before .before .before .args .buf .now) (c .before .before .before .before .before .before .before .before .before .loop .buf) _ (i .0) (i .3) _ (c .before .before .before .before .before .before .read-once .ensures) _ (c .before .before .next .given .1) in
+    let r = c .before .before .before .before .before .before in
+    let l = r .before .before .before in
+    let i = l .loop .inv in
+    let f = filled-on (start l .args .from) (l .loop .at) (start l .args .buf .now) (l .loop .buf) _ (i .0) (i .3) _ (r .read-once .ensures) _ (c .before .before .next .given .1) in
     (omega arith, omega arith, omega arith, f .2)
 
 same-length-3 : tie.Need-same-length-3 Inv-loop μ-loop

@@ -5,6 +5,10 @@ use Rattle.file_input.proofs.Fronts.{front-kept}
 use Rattle.file_input.proofs.read_once.Statement.{statement}
 use Rattle.file_input.proofs.read_once.Tie as tie
 
+-- where the function began, from where something is read
+abbrev start : tie.After-read → tie.Start
+start c = c .before .before .before
+
 sub-read : tie.Need-sub-read
 sub-read c = search needs
 
@@ -45,7 +49,7 @@ same-length-2 c = search needs
 
 returns-2 : tie.Need-returns-2
 returns-2 c =
-    let s = c .before .before .before .before .before .before .before .before .before in
+    let s = start (c .before .before .before .before .before .before) in
     (omega arith, omega (arith, simp (length-take, length-drop) at (c .count .ensures .0 .0)), front-kept (s .args .at) (s .args .buf .now) _ (s .pre))
 
 pub read-once-spec : {M : Type 1} → statement M

@@ -11,6 +11,10 @@ use Rattle.file_job.proofs.check_at.Tie as tie
 within : (a : tie.After-first) → a .before .before .before .before .args .at + 113 ≤ length (a .before .before .before .before .args .bytes .now)
 within a = let read = a .before .before .read-first-line in first-within _ _ (read .result) (read .ensures) _ (a .first .given .1)
 
+-- where the first line is known, from where it is within the limits
+abbrev first : tie.Else3 → tie.After-first
+first c = c .before .before .before .before .before .before .before
+
 read-first-line-requires : tie.Need-read-first-line-requires
 read-first-line-requires c κs = search needs
 
@@ -53,32 +57,32 @@ returns-4 c =
     over-limit _ _ (read .result) (read .ensures) _ (a .first .given .1) (λ v n l. omega arith)
 
 add-check-tables : tie.Need-add-check-tables
-add-check-tables c = omega (arith, within (c .before .before .before .before .before .before .before))
+add-check-tables c = omega (arith, within (first c))
 
 check-tables-requires : tie.Need-check-tables-requires
 check-tables-requires c κs = search needs
 
 returns-5 : tie.Need-returns-5
 returns-5 c =
-    let a = c .before .before .before .before .before .before .before .before .before in
+    let a = first (c .before .before) in
     let read = a .before .before .read-first-line in
     let called = c .before .check-tables in
     no-tables _ _ (read .result) (read .ensures) _ (a .first .given .1) (denied (called .result) (c .if4 .taken) (called .ensures))
 
 add-count : tie.Need-add-count
-add-count c = omega (arith, within (c .before .before .before .before .before .before .before .before .before))
+add-count c = omega (arith, within (first (c .before .before)))
 
 mul-count : tie.Need-mul-count
 mul-count c = search needs
 
 add-count-2 : tie.Need-add-count-2
-add-count-2 c = omega (arith, within (c .before .before .before .before .before .before .before .before .before))
+add-count-2 c = omega (arith, within (first (c .before .before)))
 
 mul-count-2 : tie.Need-mul-count-2
 mul-count-2 c = search needs
 
 add-count-3 : tie.Need-add-count-3
-add-count-3 c = omega (arith, within (c .before .before .before .before .before .before .before .before .before))
+add-count-3 c = omega (arith, within (first (c .before .before)))
 
 mul-count-3 : tie.Need-mul-count-3
 mul-count-3 c = search needs
@@ -90,7 +94,7 @@ mul-count-4 : tie.Need-mul-count-4
 mul-count-4 c = omega (arith, table-bytes _ (c .before .before .if3 .left))
 
 add-count-5 : tie.Need-add-count-5
-add-count-5 c = omega (arith, within (c .before .before .before .before .before .before .before .before .before), table-bytes _ (c .before .before .if3 .left))
+add-count-5 c = omega (arith, within (first (c .before .before)), table-bytes _ (c .before .before .if3 .left))
 
 check-draws-requires : tie.Need-check-draws-requires
 check-draws-requires c κs = search needs
@@ -103,14 +107,14 @@ enum-told-2 c = search needs
 
 returns-6 : tie.Need-returns-6
 returns-6 c =
-    let a = c .before .before .before .before .before .before .before .before .before .before .before .before in
+    let a = first (c .before .before .before .before .before) in
     let read = a .before .before .read-first-line in
     let drawn = c .before .before .check-draws in
     no-draws-there _ _ (read .result) (read .ensures) _ (a .first .given .1) (drawn .result) (drawn .ensures) (c .enum-told2 .given .1)
 
 add-t11 : tie.Need-add-t11
 add-t11 c =
-    let a = c .before .before .before .before .before .before .before .before .before .before .before .before .before in
+    let a = first (c .before .before .before .before .before .before) in
     let read = a .before .before .read-first-line in
     let drawn = c .before .before .before .check-draws in
     omega (
@@ -122,7 +126,7 @@ add-t11 c =
 
 mul-t19 : tie.Need-mul-t19
 mul-t19 c =
-    let a = c .before .before .before .before .before .before .before .before .before .before .before .before .before in
+    let a = first (c .before .before .before .before .before .before) in
     let read = a .before .before .read-first-line in
     let drawn = c .before .before .before .check-draws in
     omega (
@@ -134,7 +138,7 @@ mul-t19 c =
 
 add-t18 : tie.Need-add-t18
 add-t18 c =
-    let a = c .before .before .before .before .before .before .before .before .before .before .before .before .before in
+    let a = first (c .before .before .before .before .before .before) in
     let read = a .before .before .read-first-line in
     let drawn = c .before .before .before .check-draws in
     omega (
@@ -146,7 +150,7 @@ add-t18 c =
 
 returns-7 : tie.Need-returns-7
 returns-7 c =
-    let a = c .before .before .before .before .before .before .before .before .before .before .before .before .before in
+    let a = first (c .before .before .before .before .before .before) in
     let read = a .before .before .read-first-line in
     let tables = c .before .before .before .before in
     let drawn = c .before .before .before .check-draws in

@@ -3,6 +3,18 @@ use Rattle.file_job.proofs.Answers.{refused-at, loadable, task-read}
 use Rattle.file_job.proofs.read_at.Statement.{statement}
 use Rattle.file_job.proofs.read_at.Tie as tie
 
+-- where the function began, from where the file is checked
+abbrev start : tie.After-check-at → tie.Start
+start c = c .before .before .before .before .before .before
+
+-- where the header is known, from where the lists are lent
+abbrev header : tie.After-fill-at-arg4 → tie.After-h
+header c = c .before .before .before .before .before
+
+-- where the lists are filled, from where they come back
+abbrev filled : tie.After-slice-known7 → tie.After-fill-at
+filled c = c .before .before .before .before .before .before
+
 check-at-requires : tie.Need-check-at-requires
 check-at-requires c κs = search needs
 
@@ -19,9 +31,9 @@ returns c =
 
 fill-at-requires : tie.Need-fill-at-requires
 fill-at-requires c κs =
-    let h = c .before .before .before .before .before in
+    let h = header c in
     let called = h .before .before .check-at in
-    loadable _ _ (called .result) (called .ensures) _ (h .h .given .1) _ (c .before .before .before .before .before .before .before .before .before .before .before .before .before .pre)
+    loadable _ _ (called .result) (called .ensures) _ (h .h .given .1) _ (start (h .before .before) .pre)
 
 same-length : tie.Need-same-length
 same-length c = search needs
@@ -37,9 +49,10 @@ same-length-4 c = search needs
 
 returns-2 : tie.Need-returns-2
 returns-2 c =
-    let h = c .before .before .before .before .before .before .before .before .before .before .before .before .before .before in
+    let f = filled (c .before .before) in
+    let h = header (f .before) in
     let called = h .before .before .check-at in
-    task-read _ _ (called .result) (called .ensures) _ (h .h .given .1) _ _ (c .before .before .before .before .before .before .before .before .fill-at .ensures)
+    task-read _ _ (called .result) (called .ensures) _ (h .h .given .1) _ _ (f .fill-at .ensures)
 
 pub read-at-spec : {M : Type 1} → statement M
 read-at-spec =

@@ -4,6 +4,18 @@ use Rattle.file_job.proofs.Answers.{loadable, refused-whole, not-whole,
 use Rattle.file_job.proofs.read_file.Statement.{statement}
 use Rattle.file_job.proofs.read_file.Tie as tie
 
+-- where the function began, from where the file is checked
+abbrev start : tie.After-check-at → tie.Start
+start c = c .before .before .before .before .before .before
+
+-- where the header is known, from where the lists are lent
+abbrev header : tie.After-fill-at-arg4 → tie.After-h
+header c = c .before .before .before .before .before .before
+
+-- where the lists are filled, from where they come back
+abbrev filled : tie.After-slice-known7 → tie.After-fill-at
+filled c = c .before .before .before .before .before .before
+
 check-at-requires : tie.Need-check-at-requires
 check-at-requires c κs = search needs
 
@@ -26,9 +38,9 @@ returns-2 c =
 
 fill-at-requires : tie.Need-fill-at-requires
 fill-at-requires c κs =
-    let h = c .before .before .before .before .before .before in
+    let h = header c in
     let called = h .before .before .check-at in
-    loadable _ _ (called .result) (called .ensures) _ (h .h .given .1) _ (c .before .before .before .before .before .before .before .before .before .before .before .before .before .before .pre)
+    loadable _ _ (called .result) (called .ensures) _ (h .h .given .1) _ (start (h .before .before) .pre)
 
 same-length : tie.Need-same-length
 same-length c = search needs
@@ -44,9 +56,10 @@ same-length-4 c = search needs
 
 returns-3 : tie.Need-returns-3
 returns-3 c =
-    let h = c .before .before .before .before .before .before .before .before .before .before .before .before .before .before .before in
+    let f = filled (c .before .before) in
+    let h = header (f .before) in
     let called = h .before .before .check-at in
-    whole-read _ (called .result) (called .ensures) _ (h .h .given .1) _ _ (omega arith) (c .before .before .before .before .before .before .before .before .fill-at .ensures)
+    whole-read _ (called .result) (called .ensures) _ (h .h .given .1) _ _ (omega arith) (f .fill-at .ensures)
 
 pub read-file-spec : {M : Type 1} → statement M
 read-file-spec =

@@ -5,6 +5,10 @@ use Rattle.file_job.proofs.First.{no-first-room, no-first-five, no-firs
 use Rattle.file_job.proofs.read_first_line.Statement.{statement}
 use Rattle.file_job.proofs.read_first_line.Tie as tie
 
+-- where the function began, from where the number is read
+abbrev start : tie.After-read-field → tie.Start
+start c = c .before .before .before .before .before .before
+
 returns : tie.Need-returns
 returns c = let s = c .before .before .args in no-first-room (s .bytes .now) (s .at) (omega arith)
 
@@ -36,7 +40,7 @@ enum-told c = search needs
 
 returns-4 : tie.Need-returns-4
 returns-4 c =
-    let s = c .before .before .before .before .before .before .before .before .args in
+    let s = start (c .before .before) .args in
     let read = c .before .before .read-field in
     no-first-missed (s .bytes .now) (s .at) (read .result) (read .ensures) (c .enum-told .given .1)
 
@@ -48,7 +52,7 @@ check-line-requires c κs = search needs
 
 returns-5 : tie.Need-returns-5
 returns-5 c =
-    let s = c .before .before .before .before .before .before .before .before .before .before .before .args in
+    let s = start (c .before .before .before .before .before) .args in
     let called = c .before .check-line in
     no-first-two (s .bytes .now) (s .at) (denied (called .result) (c .if4 .taken) (called .ensures))
 

@@ -4,6 +4,10 @@ use borrow.Author.Needs.{needs}
 use Rattle.file_printing.proofs.print_run.Statement.{statement}
 use Rattle.file_printing.proofs.print_run.Tie as tie
 
+-- where the function began, from where the stops are put
+abbrev start : tie.After-put-stops → tie.Start
+start c = c .before .before .before .before
+
 put-stops-requires : tie.Need-put-stops-requires
 put-stops-requires c κs = search needs
 
@@ -24,9 +28,10 @@ same-length c = search needs
 
 returns : tie.Need-returns
 returns c =
-    let s = c .before .before .before .before .before .before .before .before .before .before in
+    let p = c .before .before .before .before .before .before in
+    let s = start p in
     run-printed (s .args .t) (s .args .v) (s .args .n) (s .args .plan .now) _ _ _ (s .pre .0 .sizes) (omega arith) (omega arith) (omega arith)
-    (c .before .before .before .before .before .before .put-stops .ensures) (c .before .before .put-totals .ensures)
+    (p .put-stops .ensures) (c .before .before .put-totals .ensures)
 
 pub print-run-spec : {M : Type 1} → statement M
 print-run-spec =

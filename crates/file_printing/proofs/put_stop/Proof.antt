@@ -5,6 +5,10 @@ use Rattle.file_printing.proofs.Pieces.{stop-printed}
 use Rattle.file_printing.proofs.put_stop.Statement.{statement}
 use Rattle.file_printing.proofs.put_stop.Tie as tie
 
+-- where the function began, from where the stop is put
+abbrev start : tie.After-put-number → tie.Start
+start c = c .before .before .before .before
+
 put-number-requires : tie.Need-put-number-requires
 put-number-requires c κs = search needs
 
@@ -25,9 +29,10 @@ same-length c = simp length-set (omega arith)
 
 returns : tie.Need-returns
 returns c =
-    let s = c .before .before .before .before .before .before .before .before .before .before in
+    let n = c .before .before .before .before .before .before in
+    let s = start n in
     stop-printed (s .args .v) (s .args .n) (s .args .plan .now) _ _ _ (s .args .at) (s .args .stop) (s .pre .0 .sizes) (s .pre .1) (s .pre .0 .room)
-    (c .before .before .before .before .before .before .put-number .ensures) (c .before .before .put-vehicle .ensures)
+    (n .put-number .ensures) (c .before .before .put-vehicle .ensures)
 
 pub put-stop-spec : {M : Type 1} → statement M
 put-stop-spec =

@@ -15,6 +15,10 @@ Inv-loop out₀ plan v n i₀ out i = (i ≤ n) × (length out ≡ length out₀
 abbrev μ-loop : tie.MeasureT-loop
 μ-loop out₀ plan v n i₀ out i = n - i
 
+-- where the function began, from the loop
+abbrev start : tie.At-loop Inv-loop μ-loop → tie.Start Inv-loop μ-loop
+start c = c .before .before .before
+
 loop-holds : tie.Need-loop-holds Inv-loop μ-loop
 loop-holds c = (omega arith, refl, stops-none _ _)
 
@@ -37,7 +41,7 @@ loop-less c = omega arith
 
 loop-again : tie.Need-loop-again Inv-loop μ-loop
 loop-again c =
-    let s = c .before .before .before .before .before .before .before .before in
+    let s = start (c .before .before .before .before .before) in
     let inv = c .before .before .before .before .before .loop .inv in (
       omega arith,
       omega arith,

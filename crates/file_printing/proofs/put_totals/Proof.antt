@@ -5,6 +5,30 @@ use borrow.Author.Needs.{needs}
 use Rattle.file_printing.proofs.put_totals.Statement.{statement}
 use Rattle.file_printing.proofs.put_totals.Tie as tie
 
+-- where the fifth number is put, from the end
+abbrev fifth : tie.After-slice-known6 → tie.After-put-number5
+fifth c = c .before .before
+
+-- where the fourth is put
+abbrev fourth : tie.After-slice-known6 → tie.After-put-number4
+fourth c = fifth c .before .before .before .before .before
+
+-- where the third is put
+abbrev third : tie.After-slice-known6 → tie.After-put-number3
+third c = fourth c .before .before .before .before .before
+
+-- where the second is put
+abbrev second : tie.After-slice-known6 → tie.After-put-number2
+second c = third c .before .before .before .before .before
+
+-- where the first is put
+abbrev first : tie.After-slice-known6 → tie.After-put-number
+first c = second c .before .before .before .before .before
+
+-- where the function began
+abbrev entry : tie.After-slice-known6 → tie.Start
+entry c = first c .before .before .before .before
+
 to-whole-requires : tie.Need-to-whole-requires
 to-whole-requires c κs = search needs
 
@@ -58,18 +82,18 @@ same-length c = simp length-set (omega arith)
 
 returns : tie.Need-returns
 returns c =
-    let s = c .before .before .before .before .before .before .before .before .before .before .before .before .before .before .before .before .before .before .before .before .before .before .before .before .before .before in
-    let start = c .before .before .before .before .before .before .before .before .before .before .before .before .before .before .before .before .before .before .before .before .before .before .before .to-whole in
-    let end = c .before .before .before .before .before .before .before .before .before .before .before .before .before .before .before .before .before .before .to-whole2 in
-    let last = c .before .before .before .flag in
+    let s = entry c in
+    let start = first c .before .to-whole in
+    let end = second c .before .to-whole2 in
+    let last = fifth c .before .flag in
     totals-printed (s .args .t) _ _ _ _ _ _ (s .args .at) (start .result) (end .result) (last .result) (s .pre .0)
     (omega (arith, start .ok)) (omega (arith, end .ok)) (omega arith) (omega arith) (omega (arith, last .ok))
     (start .ensures .0) (end .ensures .0) (last .ensures)
-    (c .before .before .before .before .before .before .before .before .before .before .before .before .before .before .before .before .before .before .before .before .before .before .put-number .ensures)
-    (c .before .before .before .before .before .before .before .before .before .before .before .before .before .before .before .before .before .put-number2 .ensures)
-    (c .before .before .before .before .before .before .before .before .before .before .before .before .put-number3 .ensures)
-    (c .before .before .before .before .before .before .before .put-number4 .ensures)
-    (c .before .before .put-number5 .ensures)
+    (first c .put-number .ensures)
+    (second c .put-number2 .ensures)
+    (third c .put-number3 .ensures)
+    (fourth c .put-number4 .ensures)
+    (fifth c .put-number5 .ensures)
 
 pub put-totals-spec : {M : Type 1} → statement M
 put-totals-spec =

@@ -16,9 +16,13 @@ its-room s =
     let a = s .args in
     room-two (a .v) (a .n) (a .old .now) (s .pre .1 .0) (a .a) (a .b) (a .first .now) (a .second .now) (s .pre .1 .1 .1 .0 .0) (s .pre .1 .1 .1 .0 .1) (s .pre .1 .1 .1 .1)
 
+-- where the old lengths are lent to be copied, from where they are copied
+abbrev lent : tie.After-slice-known2 → tie.After-paste-arg2
+lent c = c .before .before .before
+
 -- where the function began
 abbrev start : tie.After-slice-known2 → tie.Start
-start c = c .before .before .before .before .before .before .before .before .before
+start c = lent c .before .before .before .before .before .before
 
 -- the new plan with its lengths
 abbrev new : tie.After-slice-known2 → List ℕ

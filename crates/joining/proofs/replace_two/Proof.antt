@@ -13,6 +13,10 @@ exchanged s =
     let a = s .args in
     change-comm (a .b) (a .a) (λ _. a .second .now) (λ _. a .first .now) (decode (a .v) (a .old .now)) (λ e. s .pre .1 .1 .1 .0 .2 (sym e))
 
+-- where the function began, from where its first test comes
+abbrev start : tie.After-shared-slice-known3 → tie.Start
+start c = c .before .before .before .before
+
 replace-in-order-requires : tie.Need-replace-in-order-requires
 replace-in-order-requires c κs =
     let s = c .before .before .before .before .before .before in
@@ -34,7 +38,7 @@ same-length-2 c = omega arith
 
 returns-2 : tie.Need-returns-2
 returns-2 c =
-    let s = c .before .before .before .before .before .before .before .before .before in
+    let s = start (c .before .before .before .before .before) in
     rw (exchanged s) (c .before .before .replace-in-order2 .ensures)
 
 pub replace-two-spec : {M : Type 1} → statement M

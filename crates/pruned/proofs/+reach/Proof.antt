@@ -88,10 +88,17 @@ module _ (t : ℕ) where
     stands : let a = start (c .before .before .before .before) .args in Standing (a .legs .now) (a .v) (a .n) (a .prices) first-best (c .consider .result)
     stands = considered (start (c .before .before .before .before) .pre .1) (costs (c .before .before .before .before)) (weighs (c .before .before .before .before)) first-best (c .consider .result) (c .consider .ensures)
 
+  -- where the plan is weighed, from the loop over the stops
+  abbrev looped : reach-lts.At-loop (calls t) (reach-at t) reach.Post Inv-loop2 μ-loop2 Inv-loop μ-loop → reach-lts.After-missed-cost (calls t) (reach-at t) reach.Post Inv-loop2 μ-loop2 Inv-loop μ-loop
+  looped l = l .before .before .before .before .before .before .before
+
   -- a stop is chosen
   module _ (c : reach-lts.After-without2 (calls t) (reach-at t) reach.Post Inv-loop2 μ-loop2 Inv-loop μ-loop) where
+    abbrev weighed-at : reach-lts.After-missed-cost (calls t) (reach-at t) reach.Post Inv-loop2 μ-loop2 Inv-loop μ-loop
+    weighed-at = looped (c .before .before .before .before)
+
     abbrev from : Start
-    from = start (c .before .before .before .before .before .before .before .before .before .before .before)
+    from = start weighed-at
 
     is-left : 1 ≤ count (c .before .before .lowest .result) (stopsOf (from .args .left))
     is-left = stop-left (c .before .before .before .before .loop .inv .1) (c .before .before .lowest .result) (c .before .before .lowest .ensures)
@@ -151,8 +158,16 @@ consider-requires t c κs =
       least = costs-whole (a .legs .now) (a .v) (a .n) (a .prices) (a .best .now) (ready-best p) (a .least) (p .least);
     }
 
+-- where a vehicle's plan is written, from where its turn ends
+abbrev appended : (t : ℕ) → reach-lts.After-slice-known3 (calls t) (reach-at t) reach.Post Inv-loop2 μ-loop2 Inv-loop μ-loop → reach-lts.After-append (calls t) (reach-at t) reach.Post Inv-loop2 μ-loop2 Inv-loop μ-loop
+appended t c = c .before .before .before .before .before .before
+
+-- where the turn begins
+abbrev turn : (t : ℕ) → reach-lts.After-slice-known3 (calls t) (reach-at t) reach.Post Inv-loop2 μ-loop2 Inv-loop μ-loop → reach-lts.In-loop2 (calls t) (reach-at t) reach.Post Inv-loop2 μ-loop2 Inv-loop μ-loop
+turn t c = appended t c .before .before
+
 add-m : (t : ℕ) → reach-lts.Need-add-m (calls t) (reach-at t) reach.Post Inv-loop2 μ-loop2 Inv-loop μ-loop
-add-m t c = let p = c .before .before .before .before .before .before .before .before .before .before .before .before .pre .1 in omega (arith, p .vehicles, p .stops)
+add-m t c = let p = start t (c .before .before .before .before .before .before) .pre .1 in omega (arith, p .vehicles, p .stops)
 
 loop-holds : (t : ℕ) → reach-lts.Need-loop-holds (calls t) (reach-at t) reach.Post Inv-loop2 μ-loop2 Inv-loop μ-loop
 loop-holds t c = (refl, stops-all (stands t (c .before .before)))
@@ -212,34 +227,34 @@ reach-requires t c κs =
     let stop = d .before .before .lowest .result in (
       omega (arith, fewer (s .pre .1) stop (is-left t d) (d .without2 .result) (d .without2 .ensures), s .pre .0),
       onward (s .pre .1) stop (is-left t d) (d .without2 .result) (d .without2 .ensures) (l .k) (c .before .before .before .before .before .loop2-test .taken) _ (written-plan t (c .before .before .before))
-          (costs t (d .before .before .before .before .before .before .before .before .before .before .before)) (cost-whole t (d .before .before .before .before .before .before .before .before .before .before .before)) (l .best) (l .found) (l .inv .1 .best),
+          (costs t (weighed-at t d)) (cost-whole t (weighed-at t d)) (l .best) (l .found) (l .inv .1 .best),
     )
 
 add-k : (t : ℕ) → reach-lts.Need-add-k (calls t) (reach-at t) reach.Post Inv-loop2 μ-loop2 Inv-loop μ-loop
-add-k t c = let p = from t (c .before .before .before .before .before .before .before .before .before .before) .pre .1 in omega (arith, p .vehicles, c .before .before .before .before .before .before .before .before .loop2-test .taken)
+add-k t c = let p = from t (turn t c .before .before) .pre .1 in omega (arith, p .vehicles, turn t c .loop2-test .taken)
 
 loop2-less : (t : ℕ) → reach-lts.Need-loop2-less (calls t) (reach-at t) reach.Post Inv-loop2 μ-loop2 Inv-loop μ-loop
-loop2-less t c = omega (arith, c .before .before .before .before .before .before .before .before .loop2-test .taken)
+loop2-less t c = omega (arith, turn t c .loop2-test .taken)
 
 loop2-again : (t : ℕ) → reach-lts.Need-loop2-again (calls t) (reach-at t) reach.Post Inv-loop2 μ-loop2 Inv-loop μ-loop
 loop2-again t c =
-    let d = c .before .before .before .before .before .before .before .before .before .before in
+    let d = turn t c .before .before in
     let s = from t d in
-    let l = c .before .before .before .before .before .before .before .before .before .loop2 in
+    let l = turn t c .before .loop2 in
     let stop = d .before .before .lowest .result in
     let k = c .before .before .reach in (
-      as-long t (c .before .before .before .before .before .before),
-      on-more (l .inv .1) (k .last .1 .1 .1 .1 .1 .1 .1 .0) (k .result) (c .before .before .before .before .before .before .before .before .loop2-test .taken) (record { lent = k .ensures .lent; cost = k .ensures .cost })
-          (went (s .pre .1) stop (is-left t d) (d .without2 .result) (d .without2 .ensures) (l .k) (c .before .before .before .before .before .before .before .before .loop2-test .taken) _ (written-plan t (c .before .before .before .before .before .before))
-          (costs t (d .before .before .before .before .before .before .before .before .before .before .before)) (weighs t (d .before .before .before .before .before .before .before .before .before .before .before)) (l .best) (k .last .1 .1 .1 .1 .1 .1 .1 .0) (k .result) (k .ensures)),
+      as-long t (appended t c),
+      on-more (l .inv .1) (k .last .1 .1 .1 .1 .1 .1 .1 .0) (k .result) (turn t c .loop2-test .taken) (record { lent = k .ensures .lent; cost = k .ensures .cost })
+          (went (s .pre .1) stop (is-left t d) (d .without2 .result) (d .without2 .ensures) (l .k) (turn t c .loop2-test .taken) _ (written-plan t (appended t c))
+          (costs t (weighed-at t d)) (weighs t (weighed-at t d)) (l .best) (k .last .1 .1 .1 .1 .1 .1 .1 .0) (k .result) (k .ensures)),
     )
 
 same-length : (t : ℕ) → reach-lts.Need-same-length (calls t) (reach-at t) reach.Post Inv-loop2 μ-loop2 Inv-loop μ-loop
-same-length t c = c .before .loop .inv .1 .best .lent .long ∙ sym (c .before .before .before .before .before .before .before .before .before .before .before .before .before .before .pre .1 .best .long)
+same-length t c = c .before .loop .inv .1 .best .lent .long ∙ sym (start t (looped t (c .before)) .pre .1 .best .long)
 
 returns-2 : (t : ℕ) → reach-lts.Need-returns-2 (calls t) (reach-at t) reach.Post Inv-loop2 μ-loop2 Inv-loop μ-loop
 returns-2 t c =
-    let e = c .before .before .before .before .before .before .before .before in
+    let e = looped t (c .before) in
     let s = start t e in
     let l = c .before .loop in
     let o = e .before .before in

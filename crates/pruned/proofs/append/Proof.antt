@@ -8,6 +8,14 @@ use borrow.Author.Needs.{needs}
 use Rattle.pruned.proofs.append.Statement.{statement}
 use Rattle.pruned.proofs.append.Tie as tie
 
+-- where what stands before is written, from where what stands after is
+abbrev pasted : tie.After-paste2 → tie.After-paste
+pasted c = c .before .before .before .before .before
+
+-- where the place for the new stop is known
+abbrev found : tie.After-paste2 → tie.After-offset
+found c = pasted c .before .before .before
+
 add-offset : tie.Need-add-offset
 add-offset c = search needs
 
@@ -62,7 +70,7 @@ shared-slice-read-next : tie.Need-shared-slice-read-next
 shared-slice-read-next c = search needs
 
 add-next : tie.Need-add-next
-add-next c = omega (arith, short (c .before .before .before .before .before .before .before .before .before .before .before), start (c .before .before .before .before .before .before .before .before .before .before .before) .pre .0 .0)
+add-next c = omega (arith, short (found (c .before .before .before)), start (found (c .before .before .before)) .pre .0 .0)
 
 mul-next-2 : tie.Need-mul-next-2
 mul-next-2 c = search needs
@@ -71,20 +79,22 @@ slice-write-next : tie.Need-slice-write-next
 slice-write-next c = search needs
 
 mul-next-3 : tie.Need-mul-next-3
-mul-next-3 c = omega (arith, inside (c .before .before .before .before .before .before .before .before .before .before .before))
+mul-next-3 c = omega (arith, inside (found (c .before .before .before)))
 
 slice-write-next-2 : tie.Need-slice-write-next-2
-slice-write-next-2 c = simp length-set (omega (arith, inside (c .before .before .before .before .before .before .before .before .before .before .before)))
+slice-write-next-2 c = simp length-set (omega (arith, inside (found (c .before .before .before))))
 
 same-length : tie.Need-same-length
-same-length c = simp length-set (c .before .before .before .paste2 .kept .0 ∙ c .before .before .before .before .before .before .before .before .paste .kept .0)
+same-length c = simp length-set (c .before .before .before .paste2 .kept .0 ∙ pasted (c .before .before .before) .paste .kept .0)
 
 returns : tie.Need-returns
 returns c =
-    let e = c .before .before .before .before .before .before .before .before .before .before .before in
+    let q = c .before .before .before in
+    let p = pasted q in
+    let e = found q in
     let s = start e in
     written (s .args .v) (s .args .n) (s .args .plan .now) (s .pre .0 .1) (s .args .k) (s .pre .1 .0) (s .pre .1 .1) (e .offset .result) (e .offset .ensures)
-    (s .args .next .now) (c .before .before .before .before .before .before .before .before .paste .last .0) (c .before .before .before .paste2 .last .0) (s .args .stop) (s .pre .1 .2) (c .before .before .before .before .before .before .before .before .paste .ensures .1) (c .before .before .before .paste2 .ensures .1)
+    (s .args .next .now) (p .paste .last .0) (q .paste2 .last .0) (s .args .stop) (s .pre .1 .2) (p .paste .ensures .1) (q .paste2 .ensures .1)
 
 pub append-spec : {M : Type 1} → statement M
 append-spec =

@@ -9,6 +9,10 @@ use borrow.Author.Needs.{needs}
 use Rattle.pruned.proofs.pruned.Statement.{statement}
 use Rattle.pruned.proofs.pruned.Tie as tie
 
+-- where the plan is emptied, from where it is copied
+abbrev emptied : tie.After-copy-plan → tie.After-empty
+emptied c = c .before .before .before .before .before .before .before
+
 empty-requires : tie.Need-empty-requires
 empty-requires c κs = search needs
 
@@ -29,17 +33,17 @@ module _ (c : tie.After-copy-plan) where
   long = c .copy-plan .last .1 .0
 
   abbrev size : ℕ
-  size = let a = start (c .before .before .before .before .before .before .before) .args in a .v + a .n
+  size = let a = start (emptied c) .args in a .v + a .n
 
   long-enough : length long ≡ size
-  long-enough = let p = start (c .before .before .before .before .before .before .before) .pre in ap length (c .copy-plan .ensures) ∙ c .before .before .before .before .before .before .before .empty .kept .0 ∙ p .long
+  long-enough = let p = start (emptied c) .pre in ap length (c .copy-plan .ensures) ∙ emptied c .empty .kept .0 ∙ p .long
 
   as-long : length (long ++ drop size zeros) ≡ 9
   as-long =
-      let p = start (c .before .before .before .before .before .before .before) .pre in
+      let p = start (emptied c) .pre in
       length-append long (drop size zeros) ∙ omega (arith, long-enough, length-drop size zeros, p .vehicles, p .stops)
 
-  copied : take size (long ++ drop size zeros) ≡ blank (c .before .before .before .before .before .before .before)
+  copied : take size (long ++ drop size zeros) ≡ blank (emptied c)
   copied = take-at long (drop size zeros) size long-enough ∙ c .copy-plan .ensures
 
 cost-requires : tie.Need-cost-requires
@@ -67,24 +71,28 @@ of-u64-requires : tie.Need-of-u64-requires
 of-u64-requires c κs = search needs
 
 array-share-prefix-start : tie.Need-array-share-prefix-start
-array-share-prefix-start c = let p = start (c .before .before .before .before .before .before .before .before .before .before) .pre in omega (arith, as-long (c .before .before .before), p .vehicles, p .stops)
+array-share-prefix-start c = let p = start (emptied (c .before .before .before)) .pre in omega (arith, as-long (c .before .before .before), p .vehicles, p .stops)
 
 slice-aggregate-reach : tie.Need-slice-aggregate-reach
-slice-aggregate-reach c = let p = start (c .before .before .before .before .before .before .before .before .before .before .before) .pre in sym (length-take-le _ _ (omega (arith, as-long (c .before .before .before .before), p .vehicles, p .stops)))
+slice-aggregate-reach c = let p = start (emptied (c .before .before .before .before)) .pre in sym (length-take-le _ _ (omega (arith, as-long (c .before .before .before .before), p .vehicles, p .stops)))
 
 reach-requires : tie.Need-reach-requires
 reach-requires c κs =
-    let d = c .before .before .before .before .before .before .before .before .before .before .before .before in
-    beginning (start d .pre) (blank d) (d .empty .ensures) (c .before .before .before .below .result) (c .before .before .before .below .ensures) (c .before .before .of-u64 .result) (c .before .before .of-u64 .ensures) _ (copied (c .before .before .before .before .before))
-    (c .before .before .before .before .before .before .before .before .cost .result) (c .before .before .before .before .before .before .before .before .cost .ensures)
+    let p = c .before .before .before .before .before in
+    let d = emptied p in
+    beginning (start d .pre) (blank d) (d .empty .ensures) (c .before .before .before .below .result) (c .before .before .before .below .ensures) (c .before .before .of-u64 .result) (c .before .before .of-u64 .ensures) _ (copied p)
+    (p .before .before .before .cost .result) (p .before .before .before .cost .ensures)
 
 same-length : tie.Need-same-length
 same-length c = search needs
 
 returns : tie.Need-returns
-returns c = λ J F.
-    let d = c .before .before .before .before .before .before .before .before .before .before .before .before .before .before .before in
-    ending (start d .pre) (blank d) (d .empty .ensures) (c .before .before .before .before .before .before .below .result) (c .before .before .before .before .before .before .below .ensures) (c .before .before .before .before .before .of-u64 .result) (c .before .before .before .before .before .of-u64 .ensures) J F _ (copied (c .before .before .before .before .before .before .before .before))
+returns c =
+    let r = c .before .before .before in
+    let p = r .before .before .before .before .before in
+    let d = emptied p in
+    λ J F.
+    ending (start d .pre) (blank d) (d .empty .ensures) (c .before .before .before .before .before .before .below .result) (c .before .before .before .before .before .before .below .ensures) (c .before .before .before .before .before .of-u64 .result) (c .before .before .before .before .before .of-u64 .ensures) J F _ (copied p)
     _ (c .before .before .reach .result) (c .before .before .reach .ensures)
 
 pub pruned-spec : {M : Type 1} → statement M

@@ -3,6 +3,26 @@ use Rattle.sheet_answer.proofs.Found.{no-head, no-file, sheet-ready, sh
 use Rattle.sheet_answer.proofs.answer_sheet.Statement.{statement}
 use Rattle.sheet_answer.proofs.answer_sheet.Tie as tie
 
+-- where the first list is lent to the call, from where all are
+abbrev lent : tie.After-run-sheet-arg → tie.After-vehicles3
+lent c = c .before .before .before .before .before .before
+
+-- where the file was read, from where what was lent to it is back
+abbrev file-read : tie.After-draws2 → tie.After-read-at
+file-read c = c .before .before .before .before
+
+-- where the head is known
+abbrev head : tie.After-read-at → tie.After-head
+head c = c .before .before .before .before .before .before
+
+-- where the head was read
+abbrev head-read : tie.After-head → tie.After-read-head
+head-read c = c .before .before .before .before
+
+-- where the function began
+abbrev start : tie.After-read-head → tie.Start
+start c = c .before .before .before .before .before
+
 slice-aggregate-read-head : tie.Need-slice-aggregate-read-head
 slice-aggregate-read-head c = search needs
 
@@ -26,7 +46,8 @@ same-length c = search needs
 
 returns : tie.Need-returns
 returns c =
-    no-head _ _ _ _ _ _ _ (c .before .before .before .before .before .before .before .before .read-head .ensures) (c .before .before .before .before .enum-told .given .1) _ _ _ (search needs) (c .before .before .print-refusal .ensures)
+    let told = c .before .before .before .before in
+    no-head _ _ _ _ _ _ _ (told .before .before .before .before .read-head .ensures) (told .enum-told .given .1) _ _ _ (search needs) (c .before .before .print-refusal .ensures)
 
 slice-aggregate-read-at : tie.Need-slice-aggregate-read-at
 slice-aggregate-read-at c = search needs
@@ -57,7 +78,9 @@ same-length-2 c = search needs
 
 returns-2 : tie.Need-returns-2
 returns-2 c =
-    no-file _ _ _ _ _ _ (c .before .before .before .before .before .before .before .before .before .before .before .before .before .before .before .before .before .before .before .before .read-head .ensures) _ (c .before .before .before .before .before .before .before .before .before .before .before .before .before .before .before .before .head .given .1) _ _ _ (c .before .before .before .before .before .before .before .before .before .before .read-at .ensures) _ (c .before .before .before .before .enum-told2 .given .1) _ _ _
+    let f = file-read (c .before .before .before .before .before .before) in
+    let h = head f in
+    no-file _ _ _ _ _ _ (head-read h .read-head .ensures) _ (h .head .given .1) _ _ _ (f .read-at .ensures) _ (c .before .before .before .before .enum-told2 .given .1) _ _ _
     (search needs) (c .before .before .print-refusal2 .ensures)
 
 slice-aggregate-run-sheet : tie.Need-slice-aggregate-run-sheet
@@ -80,16 +103,23 @@ slice-aggregate-run-sheet-6 c = search needs
 
 run-sheet-requires : tie.Need-run-sheet-requires
 run-sheet-requires c κs =
-    sheet-ready _ _ _ _ _ _ (c .before .before .before .before .before .before .before .before .before .before .before .before .before .before .before .before .before .before .before .before .before .before .before .before .read-head .ensures) _ (c .before .before .before .before .before .before .before .before .before .before .before .before .before .before .before .before .before .before .before .before .head .given .1) _ _ _ (c .before .before .before .before .before .before .before .before .before .before .before .before .before .before .read-at .ensures) _ (c .before .before .before .before .before .before .before .before .h .given .1) _
-    (search needs) (search needs) (search needs) (c .before .before .before .before .before .before .before .before .before .before .before .before .before .before .before .before .before .before .before .before .before .before .before .before .before .before .before .before .before .pre)
+    let t = lent c .before .before in
+    let f = file-read (t .before .before) in
+    let h = head f in
+    sheet-ready _ _ _ _ _ _ (head-read h .read-head .ensures) _ (h .head .given .1) _ _ _ (f .read-at .ensures) _ (t .h .given .1) _
+    (search needs) (search needs) (search needs) (start (head-read h) .pre)
 
 same-length-3 : tie.Need-same-length-3
 same-length-3 c = search needs
 
 returns-3 : tie.Need-returns-3
 returns-3 c =
-    sheet-answered _ _ _ _ _ _ (c .before .before .before .before .before .before .before .before .before .before .before .before .before .before .before .before .before .before .before .before .before .before .before .before .before .before .before .before .read-head .ensures) _ (c .before .before .before .before .before .before .before .before .before .before .before .before .before .before .before .before .before .before .before .before .before .before .before .before .head .given .1) _ _ _ (c .before .before .before .before .before .before .before .before .before .before .before .before .before .before .before .before .before .before .read-at .ensures) _ (c .before .before .before .before .before .before .before .before .before .before .before .before .h .given .1) _ _ _
-    (search needs) (c .before .before .before .run-sheet .ensures)
+    let called = c .before .before .before in
+    let t = lent (called .before) .before .before in
+    let f = file-read (t .before .before) in
+    let h = head f in
+    sheet-answered _ _ _ _ _ _ (head-read h .read-head .ensures) _ (h .head .given .1) _ _ _ (f .read-at .ensures) _ (t .h .given .1) _ _ _
+    (search needs) (called .run-sheet .ensures)
 
 pub answer-sheet-spec : {M : Type 1} → statement M
 answer-sheet-spec =

@@ -5,6 +5,10 @@ use Rattle.sheet_answer.proofs.Ran.{ran-weigh, ran-start, ran-solve}
 use Rattle.sheet_answer.proofs.run_call.Statement.{statement}
 use Rattle.sheet_answer.proofs.run_call.Tie as tie
 
+-- where the function began, from where its first test comes
+abbrev start : tie.After-slice-known2 → tie.Start
+start c = c .before .before .before .before .before .before .before
+
 weigh-requires : tie.Need-weigh-requires
 weigh-requires c κs = search needs
 
@@ -16,8 +20,9 @@ same-length-2 c = search needs
 
 returns : tie.Need-returns
 returns c =
-    let s = c .before .before .before .before .before .before .before .before .before .before .before .before .before in
-    ran-weigh _ _ _ (s .args .call) (s .args .given .now) (s .args .plan .now) [] _ (c .before .before .before .before .before .if1 .taken) (c .before .before .weigh .ensures)
+    let branch = c .before .before .before .before .before in
+    let s = start (branch .before) in
+    ran-weigh _ _ _ (s .args .call) (s .args .given .now) (s .args .plan .now) [] _ (branch .if1 .taken) (c .before .before .weigh .ensures)
 
 start-plan-requires : tie.Need-start-plan-requires
 start-plan-requires c κs = search needs
@@ -30,9 +35,11 @@ same-length-4 c = search needs
 
 returns-2 : tie.Need-returns-2
 returns-2 c =
-    let s = c .before .before .before .before .before .before .before .before .before .before .before .before .before .before .before .before in
-    let f = c .before .before .before .before .start-plan .ensures in
-    ran-start _ _ _ (s .args .call) (s .args .given .now) (s .args .plan .now) _ _ (c .before .before .before .before .before .before .before .if2 .taken) (f .1) (f .0)
+    let called = c .before .before .before .before in
+    let branch = called .before .before .before in
+    let s = start (branch .before .before) in
+    let f = called .start-plan .ensures in
+    ran-start _ _ _ (s .args .call) (s .args .given .now) (s .args .plan .now) _ _ (branch .if2 .taken) (f .1) (f .0)
 
 solve-requires : tie.Need-solve-requires
 solve-requires c κs = search needs
@@ -45,9 +52,11 @@ same-length-6 c = search needs
 
 returns-3 : tie.Need-returns-3
 returns-3 c =
-    let s = c .before .before .before .before .before .before .before .before .before .before .before .before .before .before .before .before .before in
-    let f = c .before .before .before .before .solve .ensures in
-    ran-solve _ _ _ (s .args .call) (s .args .given .now) (s .args .plan .now) _ _ (c .before .before .before .before .before .before .before .if3 .taken) (f .1) (f .0)
+    let called = c .before .before .before .before in
+    let branch = called .before .before .before in
+    let s = start (branch .before .before .before) in
+    let f = called .solve .ensures in
+    ran-solve _ _ _ (s .args .call) (s .args .given .now) (s .args .plan .now) _ _ (branch .if3 .taken) (f .1) (f .0)
 
 run-priced-requires : tie.Need-run-priced-requires
 run-priced-requires c κs = search needs

@@ -5,6 +5,18 @@ use Rattle.sheet_answer.proofs.Held.{plan-within, runs, sheet-prints}
 use Rattle.sheet_answer.proofs.run_sheet.Statement.{statement}
 use Rattle.sheet_answer.proofs.run_sheet.Tie as tie
 
+-- where the lists that are only read have their lengths, from where the length of a plan is known
+abbrev lent : tie.After-plan-length → tie.After-shared-slice-known5
+lent c = c .before .before .before .before .before .before
+
+-- where the function began
+abbrev start : tie.After-plan-length → tie.Start
+start c = lent c .before .before .before .before .before
+
+-- where the length of a plan is known, from where the call has all that it is lent
+abbrev measured : tie.After-run-call-arg7 → tie.After-plan-length
+measured c = c .before .before .before .before .before .before .before
+
 mul-ends : tie.Need-mul-ends
 mul-ends c = search needs
 
@@ -37,7 +49,7 @@ part-run-call-start-2 c = search needs
 
 part-run-call-end-2 : tie.Need-part-run-call-end-2
 part-run-call-end-2 c =
-    let s = c .before .before .before .before .before .before .before .before .before .before .before .before in
+    let s = start (c .before) in
     omega (arith, s .pre .bounds .stops, s .pre .bounds .lists .stops)
 
 sub-run-call-3 : tie.Need-sub-run-call-3
@@ -48,7 +60,7 @@ part-run-call-start-3 c = search needs
 
 part-run-call-end-3 : tie.Need-part-run-call-end-3
 part-run-call-end-3 c =
-    let s = c .before .before .before .before .before .before .before .before .before .before .before .before .before in
+    let s = start (c .before .before) in
     omega (arith, s .pre .bounds .entries, s .pre .bounds .lists .distances)
 
 sub-run-call-4 : tie.Need-sub-run-call-4
@@ -59,7 +71,7 @@ part-run-call-start-4 c = search needs
 
 part-run-call-end-4 : tie.Need-part-run-call-end-4
 part-run-call-end-4 c =
-    let s = c .before .before .before .before .before .before .before .before .before .before .before .before .before .before in
+    let s = start (c .before .before .before) in
     omega (arith, s .pre .bounds .draws, s .pre .bounds .lists .draws)
 
 sub-run-call-5 : tie.Need-sub-run-call-5
@@ -79,13 +91,15 @@ part-run-call-start-6 c = search needs
 
 part-run-call-end-6 : tie.Need-part-run-call-end-6
 part-run-call-end-6 c =
-    let s = c .before .before .before .before .before .before .before .before .before .before .before .before .before .before .before .before in
-    omega (arith, plan-within (s .args .head) (s .args .h) (buffers (s .args .vehicles .now) (s .args .stops .now) (s .args .distances .now) (s .args .draws .now)) (s .args .given .now) (s .args .plan .now) (s .args .out .now) (s .pre) _ (c .before .before .before .before .before .plan-length .ensures))
+    let m = c .before .before .before .before .before in
+    let s = start m in
+    omega (arith, plan-within (s .args .head) (s .args .h) (buffers (s .args .vehicles .now) (s .args .stops .now) (s .args .distances .now) (s .args .draws .now)) (s .args .given .now) (s .args .plan .now) (s .args .out .now) (s .pre) _ (m .plan-length .ensures))
 
 run-call-requires : tie.Need-run-call-requires
 run-call-requires c κs =
-    let s = c .before .before .before .before .before .before .before .before .before .before .before .before .before .before .before .before .before .before in
-    runs (s .args .head) (s .args .h) (buffers (s .args .vehicles .now) (s .args .stops .now) (s .args .distances .now) (s .args .draws .now)) (s .args .given .now) (s .args .plan .now) (s .args .out .now) (s .pre) _ (c .before .before .before .before .before .before .before .plan-length .ensures)
+    let m = measured c in
+    let s = start m in
+    runs (s .args .head) (s .args .h) (buffers (s .args .vehicles .now) (s .args .stops .now) (s .args .distances .now) (s .args .draws .now)) (s .args .given .now) (s .args .plan .now) (s .args .out .now) (s .pre) _ (m .plan-length .ensures)
 
 same-length : tie.Need-same-length
 same-length c = search needs
@@ -95,8 +109,10 @@ same-length-2 c = search needs
 
 returns : tie.Need-returns
 returns c =
-    let s = c .before .before .before .before .before .before .before .before .before .before .before .before .before .before .before .before .before .before .before .before .before .before .before in
-    sheet-prints (s .args .head) (s .args .h) (buffers (s .args .vehicles .now) (s .args .stops .now) (s .args .distances .now) (s .args .draws .now)) (s .args .given .now) (s .args .plan .now) (s .args .out .now) (s .pre) _ (c .before .before .before .before .before .before .before .before .before .before .before .before .plan-length .ensures) _ _ _ (c .before .before .before .before .run-call .ensures)
+    let called = c .before .before .before .before in
+    let m = measured (called .before) in
+    let s = start m in
+    sheet-prints (s .args .head) (s .args .h) (buffers (s .args .vehicles .now) (s .args .stops .now) (s .args .distances .now) (s .args .draws .now)) (s .args .given .now) (s .args .plan .now) (s .args .out .now) (s .pre) _ (m .plan-length .ensures) _ _ _ (called .run-call .ensures)
 
 pub run-sheet-spec : {M : Type 1} → statement M
 run-sheet-spec =

@@ -19,7 +19,8 @@ enum-known-t c = search needs
 
 print-totals-and-list-requires : tie.Need-print-totals-and-list-requires
 print-totals-and-list-requires c κs =
-    (search needs, ran-priced _ _ (sym (c .before .before .before .t .given .1) ∙ c .before .before .before .before .before .before .before .solve .ensures .answer))
+    let t = c .before .before .before in
+    (search needs, ran-priced _ _ (sym (t .t .given .1) ∙ t .before .before .before .before .solve .ensures .answer))
 
 same-length : tie.Need-same-length
 same-length c = search needs
@@ -29,8 +30,9 @@ same-length-2 c = search needs
 
 returns : tie.Need-returns
 returns c =
-    let f = c .before .before .before .before .before .before .before .before .before .solve .ensures in
-    (shown-solved _ _ _ _ _ _ (sym (c .before .before .before .before .before .number .given .1) ∙ f .answer) (c .before .before .print-refusal .ensures), f .plan)
+    let n = c .before .before .before .before .before in
+    let f = n .before .before .before .before .solve .ensures in
+    (shown-solved _ _ _ _ _ _ (sym (n .number .given .1) ∙ f .answer) (c .before .before .print-refusal .ensures), f .plan)
 
 same-length-3 : tie.Need-same-length-3
 same-length-3 c = search needs
@@ -40,8 +42,9 @@ same-length-4 c = search needs
 
 returns-2 : tie.Need-returns-2
 returns-2 c =
-    let f = c .before .before .before .before .before .before .before .before .before .before .solve .ensures in
-    (shown-solved _ _ _ _ _ _ (sym (c .before .before .before .before .before .before .t .given .1) ∙ f .answer) (c .before .before .print-totals-and-list .ensures), f .plan)
+    let t = c .before .before .before .before .before .before in
+    let f = t .before .before .before .before .solve .ensures in
+    (shown-solved _ _ _ _ _ _ (sym (t .t .given .1) ∙ f .answer) (c .before .before .print-totals-and-list .ensures), f .plan)
 
 pub solve-spec : {M : Type 1} → statement M
 solve-spec =

@@ -27,8 +27,9 @@ same-length-2 c = search needs
 
 returns : tie.Need-returns
 returns c =
-    let f = c .before .before .before .before .before .before .before .before .before .start-plan .ensures in
-    (shown-start _ _ _ _ _ _ (sym (c .before .before .before .before .before .number .given .1) ∙ f .answer) (c .before .before .print-refusal .ensures), f .plan)
+    let n = c .before .before .before .before .before in
+    let f = n .before .before .before .before .start-plan .ensures in
+    (shown-start _ _ _ _ _ _ (sym (n .number .given .1) ∙ f .answer) (c .before .before .print-refusal .ensures), f .plan)
 
 same-length-3 : tie.Need-same-length-3
 same-length-3 c = search needs
@@ -38,8 +39,9 @@ same-length-4 c = search needs
 
 returns-2 : tie.Need-returns-2
 returns-2 c =
-    let f = c .before .before .before .before .before .before .before .before .before .start-plan .ensures in
-    (shown-start _ _ _ _ _ _ (sym (c .before .before .before .before .before .enum-told .given .1) ∙ f .answer) (c .before .before .print-list .ensures), f .plan)
+    let told = c .before .before .before .before .before in
+    let f = told .before .before .before .before .start-plan .ensures in
+    (shown-start _ _ _ _ _ _ (sym (told .enum-told .given .1) ∙ f .answer) (c .before .before .print-list .ensures), f .plan)
 
 pub start-plan-spec : {M : Type 1} → statement M
 start-plan-spec =

@@ -4,6 +4,10 @@ use Rattle.shuttle_answers.proofs.Laws.{file-ready, file-answers, no-fi
 use Rattle.shuttle_answers.proofs.answer.Statement.{statement}
 use Rattle.shuttle_answers.proofs.answer.Tie as tie
 
+-- where the header is known, from where the call has all that it is lent
+abbrev header : tie.After-run-task-arg → tie.After-h
+header c = c .before .before .before .before .before .before .before
+
 slice-aggregate-read-file : tie.Need-slice-aggregate-read-file
 slice-aggregate-read-file c = search needs
 
@@ -54,7 +58,7 @@ slice-aggregate-run-task-5 c = search needs
 
 run-task-requires : tie.Need-run-task-requires
 run-task-requires c κs =
-    let k = c .before .before .before .before .before .before .before in
+    let k = header c in
     let f = k .before .before .before .before .before .before .read-file in
     file-ready _ _ _ _ (f .ensures) _ (k .h .given .1) _ _ (search needs) refl (search needs)
 
@@ -63,7 +67,7 @@ same-length-2 c = search needs
 
 returns-2 : tie.Need-returns-2
 returns-2 c =
-    let k = c .before .before .before .before .before .before .before .before .before .before .before in
+    let k = header (c .before .before .before .before) in
     let f = k .before .before .before .before .before .before .read-file in
     file-answers _ _ _ _ (f .ensures) _ (k .h .given .1) _ _ _ (search needs) (c .before .before .before .run-task .ensures)
 

@@ -6,6 +6,10 @@ use Rattle.shuttle_answers.proofs.Laws.{refused-printed, run-printed}
 use Rattle.shuttle_answers.proofs.run.Statement.{statement}
 use Rattle.shuttle_answers.proofs.run.Tie as tie
 
+-- where the function began, from where what is lent has its lengths
+abbrev start : tie.After-slice-known2 → tie.Start
+start c = c .before .before .before .before .before .before
+
 solve-requires : tie.Need-solve-requires
 solve-requires c κs = search needs
 
@@ -35,7 +39,7 @@ returns : tie.Need-returns
 returns c =
     let k = c .before .before .before .before .before in
     let s = k .before .before .before .before in
-    refused-printed _ _ _ _ _ (s .before .before .before .before .before .before .before .before .pre .blank) _ (s .solve .ensures .answer) _ _ _ _
+    refused-printed _ _ _ _ _ (start (s .before .before) .pre .blank) _ (s .solve .ensures .answer) _ _ _ _
     (k .number .given .1) (c .before .before .print-refusal .ensures)
 
 same-length-3 : tie.Need-same-length-3
@@ -48,7 +52,7 @@ returns-2 : tie.Need-returns-2
 returns-2 c =
     let k = c .before .before .before .before .before .before in
     let s = k .before .before .before .before in
-    run-printed _ _ _ _ _ (s .before .before .before .before .before .before .before .before .pre .blank) _ (s .solve .ensures .answer) _ _ _ _ _
+    run-printed _ _ _ _ _ (start (s .before .before) .pre .blank) _ (s .solve .ensures .answer) _ _ _ _ _
     (k .t .given .1) (s .solve .ensures .plan) (c .before .before .print-run .ensures)
 
 pub run-spec : {M : Type 1} → statement M

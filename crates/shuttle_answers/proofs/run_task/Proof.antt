@@ -4,6 +4,14 @@ use Rattle.shuttle_answers.proofs.Laws.{runnable, task-prints}
 use Rattle.shuttle_answers.proofs.run_task.Statement.{statement}
 use Rattle.shuttle_answers.proofs.run_task.Tie as tie
 
+-- where the function began, from where what is lent has its lengths
+abbrev start : tie.After-slice-known2 → tie.Start
+start c = c .before .before .before .before .before .before
+
+-- where the sizes are known, from where the call has all that it is lent
+abbrev sized : tie.After-run-arg6 → tie.After-struct-known3
+sized c = c .before .before .before .before .before .before
+
 mul-ends : tie.Need-mul-ends
 mul-ends c = search needs
 
@@ -63,7 +71,7 @@ part-run-end-5 c = search needs
 
 run-requires : tie.Need-run-requires
 run-requires c κs =
-    let s = c .before .before .before .before .before .before .before .before .before .before .before .before .before .before .before in
+    let s = start (sized c .before .before .before) in
     runnable (s .args .h) (buffers (s .args .vehicles .now) (s .args .stops .now) (s .args .distances .now) (s .args .draws .now)) (s .args .plan .now) (s .args .out .now) (s .pre)
 
 same-length : tie.Need-same-length
@@ -74,7 +82,7 @@ same-length-2 c = search needs
 
 returns : tie.Need-returns
 returns c =
-    let s = c .before .before .before .before .before .before .before .before .before .before .before .before .before .before .before .before .before .before .before .before in
+    let s = start (sized (c .before .before .before .before .before) .before .before .before) in
     task-prints (s .args .h) (buffers (s .args .vehicles .now) (s .args .stops .now) (s .args .distances .now) (s .args .draws .now)) _ _ _
     (c .before .before .before .before .run .ensures)
 
