@@ -55,6 +55,10 @@ module _ {t : List ℕ} {v n : ℕ} {p : Prices} {xs regions gaps : List ℕ} {a
           (plansFrom (decode v xs) (regionsOf regions) (take (m + 1) more) (stopsOf fewer) q)
       turn = turn-call W (spreading-start W) F ef N
 
+      -- the number of stops that are left then
+      pub last-none : {k : ℕ} → k + 1 ≡ length (stopsOf left) → k ≡ length (stopsOf fewer)
+      last-none e = omega (arith, one, gone)
+
       pub last-meetable : {k : ℕ} → k ≡ length (stopsOf fewer) → Meetable t v n p xs regions gaps all k q next (take (m + 1) more) best f
       last-meetable = walk-meetable turn
 

@@ -72,6 +72,9 @@ module _ {t : List ℕ} {v n : ℕ} {p : Prices} {xs regions gaps : List ℕ} {a
       pub turn-room : m < length codes
       turn-room = omega (arith, W .room, W .short, ap length (S .same), taken-size left s (excluding s left) turn-there refl)
 
+      pub turn-one : {fewer : ℕ} → fewer ≡ excluding s left → length (stopsOf fewer) + 1 ≡ length (stopsOf left)
+      turn-one {fewer} e = omega (arith, taken-size left s fewer turn-there e)
+
       pub turn-fewer : {fewer : ℕ} → fewer ≡ excluding s left → length (stopsOf fewer) < length (stopsOf left)
       turn-fewer {fewer} e = omega (arith, taken-size left s fewer turn-there e)
 

@@ -2,7 +2,7 @@
 // of a cycle of calls, so the compiler can put it into its caller, which spares nine in ten of the calls of a walk. Each function leaves the
 // placements as they were.
 ghost use mathlib.Core.Path.{_≡_};
-ghost use Prim.Native.Nat.{_≤_};
+ghost use Prim.Native.Nat.{_+_, _≤_};
 ghost use lib.ListN.{length, take};
 ghost use Rattle.model.specs.StopSet.{stopsOf};
 ghost use Rattle.model.specs.Plan.{decode};
@@ -14,7 +14,7 @@ use model::Prices;
 use rebuild_choice::Score;
 use rebuild_gaps::Stand;
 
-// Places the one stop that is left at the end of gap q, and meets that arrangement, after which none is left.
+// Places the one stop that is left at the end of gap q, and meets that arrangement, after which `fewer` are left, which is none.
 fn place_last(
     legs: &[u32],
     v: usize,
@@ -31,17 +31,17 @@ fn place_last(
     m: usize,
     best: &mut [u32],
     score: Score,
+    fewer: u32,
 ) -> Score
     requires { ⌜ Walkable (now legs) v n prices (now plan) (now regions) (now gaps) all left q stand (now codes) m (now best) score
         (plansAt (decode v (now plan)) (regionsOf (now regions)) (take m (now codes)) (stopsOf left) q (stopsOf left)) ⌝ }
-    requires { ⌜ length (stopsOf left) ≡ 1 ⌝ }
+    requires { ⌜ (length (stopsOf left) ≡ 1) × (fewer + 1 ≡ length (stopsOf left)) ⌝ }
     ensures { λ r. ⌜ Walked (now (legs .entry)) v n prices
         (plansAt (decode v (now (plan .entry))) (regionsOf (now (regions .entry))) (take m (now (codes .entry))) (stopsOf left) q (stopsOf left))
         (now (best .entry)) score (now (best .exit)) r ⌝ }
     ensures { λ _. ⌜ now (codes .exit) ≡ now (codes .entry) ⌝ }
 {
     let last = stop_set::lowest(left);
-    let none = stop_set::without(left, last);
     let was = codes[m];
     codes[m] = q as u32 * 64 + last;
     let next = rebuild_gaps::step(legs, stand, last);
@@ -55,7 +55,7 @@ fn place_last(
         regions,
         gaps,
         all,
-        stop_set::size(none),
+        fewer,
         q,
         next,
         &codes[..e],
@@ -84,16 +84,16 @@ fn finish(
     m: usize,
     best: &mut [u32],
     score: Score,
+    unplaced: u32,
 ) -> Score
     requires { ⌜ Walkable (now legs) v n prices (now plan) (now regions) (now gaps) all left q stand (now codes) m (now best) score
         (plansFrom (decode v (now plan)) (regionsOf (now regions)) (take m (now codes)) (stopsOf left) q) ⌝ }
-    requires { ⌜ length (stopsOf left) ≤ 1 ⌝ }
+    requires { ⌜ (length (stopsOf left) ≤ 1) × (unplaced ≡ length (stopsOf left)) ⌝ }
     ensures { λ r. ⌜ Walked (now (legs .entry)) v n prices
         (plansFrom (decode v (now (plan .entry))) (regionsOf (now (regions .entry))) (take m (now (codes .entry))) (stopsOf left) q)
         (now (best .entry)) score (now (best .exit)) r ⌝ }
     ensures { λ _. ⌜ now (codes .exit) ≡ now (codes .entry) ⌝ }
 {
-    let unplaced = stop_set::size(left);
     let own = rebuild_choice::meet(
         legs,
         v,
@@ -115,6 +115,7 @@ fn finish(
         return found;
     }
     let driving = own.driving;
+    let fewer = unplaced - 1;
     let mut gap = q;
     while 3 * gap < regions.len() {
         let here = rebuild_gaps::resume(legs, gaps, q, gap, prices, driving, stand);
@@ -134,6 +135,7 @@ fn finish(
             m,
             best,
             found,
+            fewer,
         );
         gap += 1;
     }
@@ -157,10 +159,11 @@ fn spread_two(
     m: usize,
     best: &mut [u32],
     score: Score,
+    unplaced: u32,
 ) -> Score
     requires { ⌜ Walkable (now legs) v n prices (now plan) (now regions) (now gaps) all left q stand (now codes) m (now best) score
         (plansAt (decode v (now plan)) (regionsOf (now regions)) (take m (now codes)) (stopsOf left) q (stopsOf left)) ⌝ }
-    requires { ⌜ length (stopsOf left) ≤ 2 ⌝ }
+    requires { ⌜ (length (stopsOf left) ≤ 2) × (unplaced ≡ length (stopsOf left)) ⌝ }
     ensures { λ r. ⌜ Walked (now (legs .entry)) v n prices
         (plansAt (decode v (now (plan .entry))) (regionsOf (now (regions .entry))) (take m (now (codes .entry))) (stopsOf left) q (stopsOf left))
         (now (best .entry)) score (now (best .exit)) r ⌝ }
@@ -175,6 +178,7 @@ fn spread_two(
         codes[m] = q as u32 * 64 + one;
         let next = rebuild_gaps::step(legs, stand, one);
         let other = stop_set::without(left, one);
+        let fewer = unplaced - 1;
         let e = m + 1;
         found = finish(
             legs,
@@ -192,6 +196,7 @@ fn spread_two(
             e,
             best,
             found,
+            fewer,
         );
         codes[m] = was;
     }
@@ -262,6 +267,7 @@ pub fn walk_two(
             m,
             best,
             found,
+            unplaced,
         );
         g += 1;
     }

@@ -7,16 +7,16 @@ use lib.ListN.{length, length-set}
 use Rattle.model.specs.StopSet.{stopsOf}
 use Rattle.stop_set.proofs.Laws.{stops-none}
 use Rattle.rebuild_gaps.proofs.Here.{here-closable}
-use Rattle.rebuild_last_stops.proofs.Spreading.{Spreading, spreading-start, spreading-end, turn-room, turn-fewer, turn-less, turn-call, turn-after}
+use Rattle.rebuild_last_stops.proofs.Spreading.{Spreading, spreading-start, spreading-end, turn-room, turn-one, turn-fewer, turn-less, turn-call, turn-after}
 use Rattle.rebuild_last_stops.proofs.spread_two.Statement.{statement}
 use Rattle.rebuild_last_stops.proofs.spread_two.Tie as tie
 
 abbrev Inv-loop : tie.InvT-loop
-Inv-loop legs v n prices plan regions gaps all left q stand codes₀ m best₀ found₀ rest₀ codes best found rest =
+Inv-loop legs v n prices plan regions gaps all left q stand codes₀ m best₀ unplaced found₀ rest₀ codes best found rest =
     Spreading legs v n prices plan regions left q codes₀ m best₀ found₀ codes best found rest
 
 abbrev μ-loop : tie.MeasureT-loop
-μ-loop legs v n prices plan regions gaps all left q stand codes₀ m best₀ found₀ rest₀ codes best found rest = length (stopsOf rest)
+μ-loop legs v n prices plan regions gaps all left q stand codes₀ m best₀ unplaced found₀ rest₀ codes best found rest = length (stopsOf rest)
 
 loop-holds : tie.Need-loop-holds Inv-loop μ-loop
 loop-holds c = spreading-start (c .before .before .before .before .before .before .pre .0)
@@ -70,6 +70,12 @@ step-requires c κs =
 without-requires-2 : tie.Need-without-requires-2 Inv-loop μ-loop
 without-requires-2 c κs = c .before .before .before .lowest .ensures .small
 
+sub-fewer : tie.Need-sub-fewer Inv-loop μ-loop
+sub-fewer c =
+    let b = c .before .before .before in
+    let s = start b in
+    omega (arith, s .pre .1, turn-fewer (s .pre .0) (b .before .before .before .loop .inv) (b .before .lowest .ensures) (c .without2 .ensures))
+
 add-e : tie.Need-add-e Inv-loop μ-loop
 add-e c = omega (arith, small (c .before .before .before))
 
@@ -80,7 +86,7 @@ finish-requires c κs =
     let l = b .before .before .before .loop .inv in
     let f = b .before .lowest .ensures in
     let x = c .before .before .without2 .ensures in
-    (turn-call (s .pre .0) l f x (c .before .before .before .step .ensures), omega (arith, s .pre .1, turn-fewer (s .pre .0) l f x))
+    (turn-call (s .pre .0) l f x (c .before .before .before .step .ensures), (omega (arith, s .pre .1 .0, turn-fewer (s .pre .0) l f x), omega (arith, s .pre .1 .1, turn-one (s .pre .0) l f x)))
 
 mul-codes-3 : tie.Need-mul-codes-3 Inv-loop μ-loop
 mul-codes-3 c = omega (arith, small (c .before .before .before .before .before .before .before .before .before .before))
@@ -118,5 +124,5 @@ returns c =
 pub spread-two-spec : {M : Type 1} → statement M
 spread-two-spec =
     tie.close (tie.spec Inv-loop μ-loop loop-holds lowest-requires without-requires mul-was slice-read-was cast-codes mul-codes add-codes
-    mul-codes-2 slice-write-codes step-requires without-requires-2 add-e finish-requires mul-codes-3 slice-write-codes-2 loop-less
+    mul-codes-2 slice-write-codes step-requires without-requires-2 sub-fewer add-e finish-requires mul-codes-3 slice-write-codes-2 loop-less
     loop-again same-length same-length-2 returns)

@@ -40,7 +40,7 @@ spread-two-requires : tie.Need-spread-two-requires Inv-loop μ-loop
 spread-two-requires c κs =
     let s = c .before .before .before .before .before .before .before .before .before .before .before .before .before .before .before .before .before .before in
     let k = c .before .before .before .before .before .before .before .before .meet in
-    (walking-call (s .pre .0) {best₀ = k .last .1 .1 .1 .1 .1 .1 .1 .1 .1 .1 .1 .1 .0} (k .ensures .walked) (c .before .before .before .before .loop .inv) (c .before .before .before .loop-test .taken) (k .ensures .driving) (c .before .before .resume .ensures), s .pre .1)
+    (walking-call (s .pre .0) {best₀ = k .last .1 .1 .1 .1 .1 .1 .1 .1 .1 .1 .1 .1 .0} (k .ensures .walked) (c .before .before .before .before .loop .inv) (c .before .before .before .loop-test .taken) (k .ensures .driving) (c .before .before .resume .ensures), (s .pre .1, c .before .before .before .before .before .before .before .before .before .before .before .size .ensures .stops))
 
 add-g : tie.Need-add-g Inv-loop μ-loop
 add-g c = omega (arith, c .before .before .before .before .before .before .before .before .before .loop .inv .few, c .before .before .before .before .before .before .before .before .before .before .before .before .before .before .before .before .before .before .before .before .before .before .before .pre .0 .ground .gapped .few)
