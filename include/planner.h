@@ -1,8 +1,9 @@
 /* The drive shuttle planner for hosts in C: the functions of the static library that `rt staticlib planner_ffi` writes to
- * target/staticlib/libplanner_ffi.a (x86-64 Linux; it needs nothing but memcpy and memset).
+ * target/staticlib/libplanner_ffi.a (x86-64 Linux; it needs nothing but memcpy, memmove and memset).
  *
  * What every call promises (proved in crates/planner_ffi, as equations over the definitions of crates/model/specs):
- * - It returns 0 where it accepts its arguments, and otherwise the lowest number of the table below that applies to them.
+ * - It returns 0 where it accepts its arguments, and otherwise the number of the first test that applies to them. The tests are
+ *   made in the order 1 to 12, 16, 17, 13; a call makes those that speak of what it is given.
  * - A call that is refused leaves every buffer and every result as it was.
  * - A call that is accepted leaves in the plan and in its results what the definitions say, and nothing elsewhere.
  * - It ends, on every input.
@@ -22,17 +23,18 @@
  * and a plan as v + n numbers: the v route lengths, then the stops of route 0, route 1 and so on, then PLANNER_UNUSED in each
  * unused place.
  *
- * A cost is a whole number, exact in a double.
+ * A set of stops is one number, stop 0 its lowest bit. A cost is a whole number, exact in a double.
  *
  * Refusals (refusals.txt, beside this file, has a sentence for each):
  *    1  vehicles_len odd or over 32             8  a price over its limit: 1000000, 16, 10000000000000
  *    2  stops_len over 64                       9  smoothing outside 1 to 1000
  *    3  locations over 80, or                  10  limit outside 1 to 1000000
- *       distances_len not its square           11  a given plan not in plan form, or a stop twice
- *    4  plan_len not v + n                     12  given stops not below n, equal, or (rebuild) not one or two
- *    5  draws_len outside 1 to 1024            13  exhaustive or pruned with over 6 stops or 3 vehicles
- *    6  a location number not below l
- *    7  a distance over 200000
+ *       distances_len not its square           11  a given plan not in plan form, or a stop twice; or
+ *    4  plan_len not v + n                         a live set that lacks a stop of the plan or has one not below n
+ *    5  draws_len outside 1 to 1024            12  given stops not below n, equal, or (rebuild) not one or two
+ *    6  a location number not below l          13  exhaustive or pruned with over 6 stops or 3 vehicles
+ *    7  a distance over 200000                 16  arrival of a stop that is live
+ *                                              17  cancellation of a stop that is not live
  */
 #ifndef PLANNER_H
 #define PLANNER_H
@@ -122,6 +124,31 @@ uint32_t planner_solve(
     const uint32_t *draws, size_t draws_len,
     uint32_t *plan, size_t plan_len,
     double *start, double *end, uint32_t *rounds, uint32_t *improving, uint32_t *settled);
+
+/* Adds a stop while the stops of the set `live` are. It is put where the plan then costs least, on the lower vehicle and then at
+ * the earlier place on ties, or stays on no route where that is strictly cheaper or there is no vehicle. Writes the plan, the set
+ * with the stop in it, and the plan's cost, which counts as missed only live stops. */
+uint32_t planner_arrive(
+    const uint32_t *vehicles, size_t vehicles_len,
+    const uint32_t *stops, size_t stops_len,
+    uint32_t locations,
+    const uint32_t *distances, size_t distances_len,
+    uint32_t linear, uint32_t quadratic, uint64_t missed,
+    uint32_t *plan, size_t plan_len,
+    uint64_t live, uint32_t stop,
+    uint64_t *after, double *cost);
+
+/* Cancels a stop of the set `live`. It leaves its route, where it is on one, and is no longer counted as missed. Writes the plan,
+ * the set without the stop, and the plan's cost, which counts as missed only live stops. */
+uint32_t planner_cancel(
+    const uint32_t *vehicles, size_t vehicles_len,
+    const uint32_t *stops, size_t stops_len,
+    uint32_t locations,
+    const uint32_t *distances, size_t distances_len,
+    uint32_t linear, uint32_t quadratic, uint64_t missed,
+    uint32_t *plan, size_t plan_len,
+    uint64_t live, uint32_t stop,
+    uint64_t *after, double *cost);
 
 #ifdef __cplusplus
 }

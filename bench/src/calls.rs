@@ -1,7 +1,7 @@
 //! The answers of call sheets by the static library, its refusals among them.
 
 use crate::proved;
-use planner::Refusal;
+use planner::{Refusal, Standing};
 use sheet::{costs, numbers, run_line, Call, Sheet};
 
 pub fn answer(sheet: &Sheet) -> String {
@@ -26,10 +26,11 @@ pub fn answer(sheet: &Sheet) -> String {
     }
 }
 
-/// Makes the call, and answers the line of its cost or its run.
+/// Makes the call, and answers the line of its cost, its live stops and cost, or its run.
 fn call(sheet: &Sheet, plan: &mut [u32]) -> Result<String, Refusal> {
     let job = &sheet.job;
     let line = |cost: f64| costs([cost as u64]);
+    let standing = |standing: Standing| costs([standing.live, standing.cost as u64]);
 
     match sheet.call {
         Call::Weigh => proved::weigh(job, plan).map(line),
@@ -39,19 +40,24 @@ fn call(sheet: &Sheet, plan: &mut [u32]) -> Result<String, Refusal> {
         Call::Exhaustive => proved::exhaustive(job, plan).map(line),
         Call::Pruned => proved::pruned(job, plan).map(line),
         Call::Solve => proved::solve(job, plan).map(run_line),
+        Call::Arrive => proved::arrive(job, plan, sheet.live(), sheet.stop()).map(standing),
+        Call::Cancel => proved::cancel(job, plan, sheet.live(), sheet.stop()).map(standing),
     }
 }
 
 #[cfg(test)]
 mod tests {
     use super::*;
-    use sheet::sheet_a;
+    use sheet::{given_live, sheet_a, UNUSED};
 
     /// Checks the number that each of the calls refuses a changed sheet with; the others accept it.
     fn check(calls: &[Call], number: u32, change: impl Fn(&mut Sheet)) {
         for call in Call::ALL {
             let mut sheet = sheet_a(call);
-            let mut plan = vec![2, 0, 1];
+            let mut plan = match call {
+                Call::Arrive => sheet.plan.clone(),
+                _ => vec![2, 0, 1],
+            };
 
             change(&mut sheet);
             assert_eq!(
@@ -75,5 +81,24 @@ mod tests {
         });
         check(&[Call::Solve], 5, |sheet| sheet.job.draws.clear());
         check(&[Call::Solve], 5, |sheet| sheet.job.draws = vec![0; 1_025]);
+    }
+    /// The answer of an arrival or a cancellation of stop 1 of Job A, with other live stops.
+    fn live_answer(call: Call, live: u64) -> String {
+        answer(&Sheet {
+            given: given_live(1, live),
+            ..sheet_a(call)
+        })
+    }
+
+    #[test]
+    fn answers_live_stops_cost_and_plan() {
+        let lines = |live, cost, plan: &[u32]| costs([live, cost]) + &numbers(plan);
+
+        assert_eq!(live_answer(Call::Arrive, 1), lines(3, 6, &[2, 1, 0]));
+        assert_eq!(live_answer(Call::Cancel, 3), lines(1, 4, &[1, 0, UNUSED]));
+        assert_eq!(live_answer(Call::Arrive, 3), costs([16]));
+        assert_eq!(live_answer(Call::Arrive, 1 | 1 << 32), costs([11]));
+        assert_eq!(live_answer(Call::Cancel, 3 | 1 << 63), costs([11]));
+        assert_eq!(live_answer(Call::Cancel, 1), costs([11]));
     }
 }

@@ -1,7 +1,26 @@
 use std::time::Duration;
 
+/// How often something is timed at least, and for how long. The least time counts.
+const MIN_TIMES: usize = 3;
+const MIN_TIME: Duration = Duration::from_millis(300);
+
+/// The least of the times that something takes, in seconds.
+pub fn least_time(mut run: impl FnMut()) -> f64 {
+    let start = thread_time();
+    let mut times = vec![];
+
+    while times.len() < MIN_TIMES || thread_time() - start < MIN_TIME {
+        let start = thread_time();
+
+        run();
+        times.push(thread_time() - start);
+    }
+
+    times.into_iter().min().unwrap_or_default().as_secs_f64()
+}
+
 /// The processor's time that this thread has had, which other programs do not add to.
-pub fn thread_time() -> Duration {
+fn thread_time() -> Duration {
     let mut time = Time {
         seconds: 0,
         nanoseconds: 0,

@@ -10,12 +10,12 @@ mod random;
 
 use self::{arguments::Arguments, lent::Lent, outcome::Outcome, progress::Progress};
 use generate::Random;
-use sheet::{call_table, Call};
+use sheet::{call_table, contains, Call, CALL_COUNT};
 
 /// Makes so many calls, from the call of a number on, and answers tables of them, or the first that differs.
 pub fn fire(count: u64, seed: u64, first: u64) -> Result<String, String> {
     let mut progress = Progress::new(count);
-    let mut tally = Tally::default();
+    let mut tally = Tally::new();
 
     for index in first..first + count {
         let random = &mut Random::new(seed, index);
@@ -53,7 +53,7 @@ fn difference(random: &mut Random, arguments: &Arguments, outcome: &Outcome) -> 
 /// Whether arguments are at an edge.
 type Edge = (&'static str, fn(&Arguments) -> bool);
 
-const EDGES: [Edge; 25] = [
+const EDGES: [Edge; 36] = [
     ("no vehicles", |call| call.vehicles.is_empty()),
     ("16 vehicles", |call| call.vehicles.len() == 32),
     ("16 and a half", |call| call.vehicles.len() == 33),
@@ -85,6 +85,31 @@ const EDGES: [Edge; 25] = [
 
         is_exhaustive && call.stops.len() == 6 && call.vehicles.len() == 6
     }),
+    ("no live stops", |call| live(call, call.live == 0)),
+    ("all stops live", |call| {
+        live(call, call.live == call.all() && call.live != 0)
+    }),
+    ("all 64 bits live", |call| live(call, call.live == u64::MAX)),
+    ("stop 63 live", |call| live(call, contains(call.live, 63))),
+    ("a placed stop not live", |call| {
+        live(call, call.placed() & !call.live != 0)
+    }),
+    ("a live stop not below n", |call| {
+        live(call, call.live & !call.all() != 0)
+    }),
+    ("stop 63 given", |call| live(call, call.stop == 63)),
+    ("stop n given", |call| {
+        live(call, call.stop as usize == call.stops.len())
+    }),
+    ("a live stop given", |call| {
+        live(call, contains(call.live, call.stop))
+    }),
+    ("a stop given that is not live", |call| {
+        live(call, !contains(call.live, call.stop))
+    }),
+    ("a live stop given that is on no route", |call| {
+        live(call, contains(call.live & !call.placed(), call.stop))
+    }),
 ];
 
 fn longest(call: &Arguments, distance: u32) -> bool {
@@ -99,20 +124,33 @@ fn run(call: &Arguments, condition: bool) -> bool {
     call.call == Call::Solve && condition
 }
 
+fn live(call: &Arguments, condition: bool) -> bool {
+    call.call.has_live_stops() && condition
+}
+
 fn equal_given(call: &Arguments) -> bool {
     call.call.has_given_stops() && call.given.len() == 2 && call.given[0] == call.given[1]
 }
 
+/// A call returns less than this.
+const NUMBER_COUNT: usize = 18;
+
 /// How many calls there were, by call.
-#[derive(Default)]
 struct Tally {
     /// By the number that the call returned.
-    numbers: [[usize; 7]; 14],
+    numbers: [[usize; CALL_COUNT]; NUMBER_COUNT],
     /// By edge, of accepted and of refused calls.
     edges: [[usize; 2]; EDGES.len()],
 }
 
 impl Tally {
+    fn new() -> Self {
+        Self {
+            numbers: [[0; CALL_COUNT]; NUMBER_COUNT],
+            edges: [[0; 2]; EDGES.len()],
+        }
+    }
+
     fn add(&mut self, arguments: &Arguments, number: u32) {
         self.numbers[number as usize][arguments.call as usize] += 1;
 
@@ -121,8 +159,11 @@ impl Tally {
         }
     }
 
+    /// Numbers that no call returned have no row.
     fn tables(&self) -> String {
-        let rows = self.numbers.iter().enumerate().map(|(number, counts)| {
+        let met = self.numbers.iter().enumerate();
+        let met = met.filter(|(_, counts)| counts.iter().any(|&count| count > 0));
+        let rows = met.map(|(number, counts)| {
             let name = match number {
                 0 => "accepted".to_string(),
                 _ => format!("refused {number}"),
@@ -130,7 +171,7 @@ impl Tally {
 
             (name, *counts)
         });
-        let mut sums = [0; 7];
+        let mut sums = [0; CALL_COUNT];
 
         for (call, sum) in sums.iter_mut().enumerate() {
             *sum = self.numbers.iter().map(|counts| counts[call]).sum();

@@ -1,6 +1,7 @@
 //! Measures the proved planner, the solver's Rust and the plain rewrite on the same jobs in one process, compares them, and prints
 //! tables.
 
+mod arrivals;
 mod calls;
 mod clock;
 mod fire;
@@ -23,6 +24,7 @@ usage: bench times                     tables of times
        bench fire COUNT SEED [FIRST]   calls of the static library with random arguments of every kind, from number FIRST
                                        (0) on, each compared with the table of refusals and the plain rewrite
        bench run SIDE V N L LIMIT      one run, to be looked at by other tools
+       bench arrivals COUNT V N L      so many cancellations and arrivals of a stop, and as many weighings, likewise
        bench call CALL KIBIBYTES       one call on a stack of that size
 SIDE: proved, oracle or plain";
 
@@ -102,6 +104,11 @@ fn run(arguments: &[String]) -> Result<String, String> {
         ["call", call, size] => {
             stack::call(call, number(size)? as usize);
             Ok(String::new())
+        }
+        ["arrivals", count, vehicles, stops, locations] => {
+            let sizes = [number(vehicles)?, number(stops)?, number(locations)?];
+
+            Ok(arrivals::repeat(number(count)?, &job(sizes, 0, 1)))
         }
         ["run", side, vehicles, stops, locations, limit] => {
             let sizes = [number(vehicles)?, number(stops)?, number(locations)?];

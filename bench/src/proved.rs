@@ -1,17 +1,17 @@
 //! The proved planner, called through the static library with the jobs of sheets.
 
-use planner::{Refusal, Running, Totals};
+use planner::{Refusal, Running, Standing, Totals};
 use sheet::{Job, Run, UNUSED};
 
 /// A job's lists as the calls take them.
-struct Lists<'a> {
+pub struct Lists<'a> {
     vehicles: Vec<u32>,
     distances: Vec<u32>,
     job: &'a Job,
 }
 
 impl<'a> Lists<'a> {
-    fn new(job: &'a Job) -> Self {
+    pub fn new(job: &'a Job) -> Self {
         Self {
             vehicles: job.vehicles.concat(),
             distances: job.distances.concat(),
@@ -19,7 +19,7 @@ impl<'a> Lists<'a> {
         }
     }
 
-    fn job(&self) -> planner::Job<'_> {
+    pub fn job(&self) -> planner::Job<'_> {
         planner::Job {
             vehicles: &self.vehicles,
             stops: &self.job.stops,
@@ -64,6 +64,14 @@ pub fn solve(job: &Job, plan: &mut [u32]) -> Result<Run, Refusal> {
     };
 
     planner::solve(&Lists::new(job).job(), &running, plan).map(run)
+}
+
+pub fn arrive(job: &Job, plan: &mut [u32], live: u64, stop: u32) -> Result<Standing, Refusal> {
+    planner::arrive(&Lists::new(job).job(), plan, live, stop)
+}
+
+pub fn cancel(job: &Job, plan: &mut [u32], live: u64, stop: u32) -> Result<Standing, Refusal> {
+    planner::cancel(&Lists::new(job).job(), plan, live, stop)
 }
 
 fn run(totals: Totals) -> Run {

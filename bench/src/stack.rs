@@ -1,14 +1,14 @@
 //! The least stack on which a call of the proved planner ends, at its largest size.
 
 use crate::{job, proved};
-use sheet::{encode, Job};
+use sheet::{all_stops, encode, Job};
 use std::{
     env,
     process::{Command, Stdio},
     thread,
 };
 
-const CALLS: [&str; 7] = [
+const CALLS: [&str; 9] = [
     "weigh",
     "start_plan",
     "two_opt",
@@ -16,6 +16,8 @@ const CALLS: [&str; 7] = [
     "exhaustive",
     "pruned",
     "solve",
+    "arrive",
+    "cancel",
 ];
 const LARGEST: [u64; 3] = [16, 64, 80];
 const EXHAUSTIVE: [u64; 3] = [3, 6, 80];
@@ -78,7 +80,8 @@ pub fn call(call: &str, size: usize) {
 
 fn make(call: &str, job: &Job) {
     let mut plan = proved::unused(job);
-    let mut full = full(job);
+    let mut full = on_two(job, None);
+    let live = all_stops(job.stops.len());
     let answers = match call {
         "weigh" => [proved::weigh(job, &full).map(drop); 2],
         "start_plan" => [proved::start_plan(job, &mut plan); 2],
@@ -89,17 +92,24 @@ fn make(call: &str, job: &Job) {
         "exhaustive" => [proved::exhaustive(job, &mut plan).map(drop); 2],
         "pruned" => [proved::pruned(job, &mut plan).map(drop); 2],
         "solve" => [proved::solve(job, &mut plan).map(drop); 2],
+        "arrive" => [0, 63].map(|stop| {
+            let mut others = on_two(job, Some(stop));
+
+            proved::arrive(job, &mut others, live & !(1 << stop), stop as u32).map(drop)
+        }),
+        "cancel" => [(0, live), (63, live & !1)]
+            .map(|(stop, live)| proved::cancel(job, &mut full, live, stop).map(drop)),
         _ => [Ok(()); 2],
     };
 
     assert_eq!(answers, [Ok(()); 2]);
 }
 
-/// All stops on two vehicles, where there are as many.
-fn full(job: &Job) -> Vec<u32> {
+/// All stops, or all but one, on two vehicles where there are as many.
+fn on_two(job: &Job, missing: Option<usize>) -> Vec<u32> {
     let mut routes = vec![vec![]; job.vehicles.len()];
 
-    for stop in 0..job.stops.len() {
+    for stop in (0..job.stops.len()).filter(|&stop| Some(stop) != missing) {
         routes[stop / 32].push(stop);
     }
 

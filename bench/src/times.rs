@@ -1,12 +1,8 @@
-use crate::{clock::thread_time, job, Side, SIDES};
-use std::time::Duration;
+use crate::{arrivals, clock::least_time, job, Side, SIDES};
 
 /// Rounds before those that are timed, so that reading the job, tables and start plan cancel out.
 const FIRST: u32 = 10;
 const ROUNDS: u32 = 50;
-/// How often each run is timed at least, and for how long. The least time counts.
-const MIN_TIMES: usize = 3;
-const MIN_TIME: Duration = Duration::from_millis(300);
 const JOBS: u64 = 4;
 const SIZES: [[u64; 3]; 3] = [[4, 20, 24], [8, 40, 48], [16, 64, 80]];
 const STOP_COUNTS: [u64; 6] = [8, 16, 24, 32, 48, 64];
@@ -17,7 +13,9 @@ pub fn tables() -> String {
         (0..JOBS).for_each(|index| check(sizes, index));
     }
 
-    [by_size(), by_stops(), by_rounds()].join("\n")
+    let arrivals = arrivals::table(&SIZES, JOBS);
+
+    [by_size(), by_stops(), by_rounds(), arrivals].join("\n")
 }
 
 /// All sides give the same answer, and no run settles before its limit.
@@ -32,18 +30,12 @@ fn check(sizes: [u64; 3], index: u64) {
 /// The time of a run in seconds.
 fn run_time(side: &Side, sizes: [u64; 3], index: u64, limit: u32) -> f64 {
     let job = job(sizes, index, limit);
-    let start = thread_time();
-    let mut times = vec![];
 
-    while times.len() < MIN_TIMES || thread_time() - start < MIN_TIME {
-        let start = thread_time();
+    least_time(|| {
         let (run, _) = (side.solve)(&job);
 
-        times.push(thread_time() - start);
         assert_eq!(run.rounds, limit as u64);
-    }
-
-    times.into_iter().min().unwrap_or_default().as_secs_f64()
+    })
 }
 
 /// Microseconds of a round.

@@ -2,7 +2,7 @@
 
 use core::{BasicSolver, Location};
 use rand::rngs::Draws;
-use sheet::{Job, Planner, Routes, Run};
+use sheet::{Changed, Job, Planner, Routes, Run};
 use simple::{
     cost::{CostCalculator, DeliveryCostCalculator, DistanceCostCalculator},
     route::TableRouter,
@@ -68,6 +68,43 @@ impl Planner for Original {
             routes(&solution),
         )
     }
+
+    // The solver has no such call: its own cost decides, of a day on which only the live stops are to be made.
+    fn arrive(job: &Job, plan: &Routes, live: u64, stop: usize) -> Changed {
+        let live = live | 1 << stop;
+        let old = solution(plan);
+        let placed = (0..plan.len())
+            .flat_map(|vehicle| (0..=plan[vehicle].len()).map(move |place| (vehicle, place)))
+            .map(|(vehicle, place)| old.insert_stop(vehicle, place, stop));
+
+        // Of plans at equal cost the first is kept, and the old one comes last.
+        cheapest(job, live, placed.chain([old.clone()]))
+    }
+
+    fn cancel(job: &Job, plan: &Routes, live: u64, stop: usize) -> Changed {
+        let others = plan
+            .iter()
+            .map(|route| route.iter().copied().filter(|&other| other != stop));
+
+        cheapest(job, live & !(1 << stop), [Solution::from_routes(others)])
+    }
+}
+
+/// The first of the cheapest plans where only live stops count.
+fn cheapest(job: &Job, live: u64, plans: impl IntoIterator<Item = Solution>) -> Changed {
+    let problem = problem(job);
+    let router = router(job);
+    let mut calculator = calculator_of(job, live.count_ones() as usize, &problem, &router);
+
+    plans
+        .into_iter()
+        .map(|plan| Changed {
+            live,
+            cost: whole(calculator.calculate(&plan)),
+            routes: routes(&plan),
+        })
+        .min_by_key(|changed| changed.cost)
+        .expect("a plan")
 }
 
 fn problem(job: &Job) -> Problem {
@@ -89,9 +126,19 @@ fn router(job: &Job) -> TableRouter {
 }
 
 fn calculator<'a>(job: &Job, problem: &'a Problem, router: &'a TableRouter) -> Calculator<'a> {
+    calculator_of(job, job.stops.len(), problem, router)
+}
+
+/// The cost of plans for a number of stops.
+fn calculator_of<'a>(
+    job: &Job,
+    stop_count: usize,
+    problem: &'a Problem,
+    router: &'a TableRouter,
+) -> Calculator<'a> {
     DeliveryCostCalculator::new(
         DistanceCostCalculator::new(router, problem),
-        job.stops.len(),
+        stop_count,
         job.missed as f64,
         job.linear as f64,
         job.quadratic as f64,

@@ -1,7 +1,10 @@
 //! Recorded answers: a fixed list of call sheets, what the solver's Rust answers, and how many sheets there are of each
 //! kind.
 
-use sheet::{answer_sheets, call_table, decode, refusal, write_sheet, Call, Planner, Sheet};
+use sheet::{
+    all_stops, answer_sheets, call_table, decode, placed_stops, refusal, write_sheet, Call,
+    Planner, Routes, Sheet, CALL_COUNT,
+};
 use std::{collections::BTreeMap, fs, io, path::Path};
 
 /// Writes the sheets to DIRECTORY/stdin and the answers to DIRECTORY/stdout, and answers a table of what they are.
@@ -11,29 +14,42 @@ pub fn record<P: Planner>(directory: &Path) -> io::Result<String> {
     let mut output = vec![];
 
     // A call that does not exist is no sheet: 14, and the end.
-    input += &format!("{:14}\n", 8);
+    input += &format!("{:14}\n", CALL_COUNT + 1);
     answer_sheets::<P>(input.as_bytes(), &mut output)?;
     fs::create_dir_all(directory)?;
     fs::write(directory.join("stdin"), &input)?;
     fs::write(directory.join("stdout"), &output)?;
 
-    Ok(summary(&sheets))
+    Ok(summary::<P>(&sheets))
 }
 
 /// The place of a row in the table, and what it counts.
 type Kind = (&'static str, String);
 
 /// The rows' first words in the order of the table.
-const HEADINGS: [&str; 10] = [
-    "all", "refused", "size", "table", "q", "M", "plan", "pair", "run", "draws",
+const HEADINGS: [&str; 14] = [
+    "all",
+    "refused",
+    "size",
+    "table",
+    "q",
+    "M",
+    "plan",
+    "pair",
+    "run",
+    "draws",
+    "live",
+    "arrival",
+    "tie",
+    "cancellation",
 ];
 
 /// How many sheets there are by call: of all, of those that are refused, and of the others by their kinds.
-fn summary(sheets: &[Sheet]) -> String {
-    let mut counts = BTreeMap::<Kind, [usize; 7]>::new();
+fn summary<P: Planner>(sheets: &[Sheet]) -> String {
+    let mut counts = BTreeMap::<Kind, [usize; CALL_COUNT]>::new();
 
     for sheet in sheets {
-        for kind in kinds(sheet) {
+        for kind in kinds::<P>(sheet) {
             counts.entry(kind).or_default()[sheet.call as usize] += 1;
         }
     }
@@ -58,7 +74,7 @@ fn name(heading: &str, label: &str) -> String {
         .join(" ")
 }
 
-fn kinds(sheet: &Sheet) -> Vec<Kind> {
+fn kinds<P: Planner>(sheet: &Sheet) -> Vec<Kind> {
     let all = ("all", String::new());
 
     if let Some(number) = refusal(sheet) {
@@ -91,6 +107,19 @@ fn kinds(sheet: &Sheet) -> Vec<Kind> {
         kinds.push(("run", format!("of c {:4}", job.smoothing)));
         kinds.push(("run", format!("of limit {:7}", job.limit)));
         kinds.push(("draws", draws(job.draws.len()).into()));
+    }
+
+    if sheet.call.has_live_stops() {
+        kinds.push(("live", live(sheet).into()));
+    }
+
+    match sheet.call {
+        Call::Arrive => {
+            kinds.push(("arrival", arrival::<P>(sheet).into()));
+            kinds.extend(ties::<P>(sheet).map(|tie| ("tie", tie.into())));
+        }
+        Call::Cancel => kinds.push(("cancellation", place(&routes(sheet), sheet.stop()).into())),
+        _ => {}
     }
 
     kinds
@@ -129,9 +158,13 @@ fn missed(sheet: &Sheet) -> &'static str {
     }
 }
 
+fn routes(sheet: &Sheet) -> Routes {
+    decode(&sheet.plan, sheet.job.vehicles.len(), sheet.job.stops.len()).unwrap_or_default()
+}
+
 fn plan(sheet: &Sheet) -> String {
     let stop_count = sheet.job.stops.len();
-    let routes = decode(&sheet.plan, sheet.job.vehicles.len(), stop_count).unwrap_or_default();
+    let routes = routes(sheet);
     let placed = routes.iter().map(Vec::len).sum::<usize>();
 
     match (
@@ -153,8 +186,7 @@ fn plan(sheet: &Sheet) -> String {
 
 /// Where the given stops are.
 fn pair(sheet: &Sheet) -> &'static str {
-    let routes =
-        decode(&sheet.plan, sheet.job.vehicles.len(), sheet.job.stops.len()).unwrap_or_default();
+    let routes = routes(sheet);
     let vehicles = sheet
         .given
         .iter()
@@ -173,6 +205,85 @@ fn pair(sheet: &Sheet) -> &'static str {
         [None] => "of one stop, unplaced",
         _ => "with both unplaced",
     }
+}
+
+/// Which stops are live besides those on routes.
+fn live(sheet: &Sheet) -> &'static str {
+    let live = sheet.live();
+    let unplaced = live & !placed_stops(&routes(sheet));
+
+    match (live, unplaced) {
+        (0, _) => "none",
+        (_, 0) => "those placed alone",
+        _ if live == all_stops(sheet.job.stops.len()) => "all, some of them unplaced",
+        _ => "some of those unplaced",
+    }
+}
+
+/// Where an arriving stop is then.
+fn arrival<P: Planner>(sheet: &Sheet) -> &'static str {
+    let stop = sheet.stop() as usize;
+
+    match sheet.job.vehicles.len() {
+        0 => "without a vehicle",
+        _ => place(
+            &P::arrive(&sheet.job, &routes(sheet), sheet.live(), stop).routes,
+            sheet.stop(),
+        ),
+    }
+}
+
+fn place(routes: &Routes, stop: u32) -> &'static str {
+    let place = routes.iter().find_map(|route| {
+        let place = route.iter().position(|&other| other == stop as usize)?;
+
+        Some((place, route.len()))
+    });
+
+    match place {
+        None => "on no route",
+        Some((_, 1)) => "alone on a route",
+        Some((0, _)) => "at the front of a route",
+        Some((place, count)) if place + 1 < count => "within a route",
+        Some(_) => "at the end of a route",
+    }
+}
+
+/// What is as cheap as the plan that an arrival leaves.
+fn ties<P: Planner>(sheet: &Sheet) -> impl Iterator<Item = &'static str> {
+    let old = routes(sheet);
+    let weigh = |routes: &Routes| P::weigh(&sheet.job, routes);
+    let places = (0..old.len())
+        .flat_map(|vehicle| (0..=old[vehicle].len()).map(move |place| (vehicle, place)))
+        .map(|(vehicle, place)| {
+            let mut routes = old.clone();
+
+            routes[vehicle].insert(place, sheet.stop() as usize);
+            (weigh(&routes), vehicle)
+        })
+        .collect::<Vec<_>>();
+    let least = places.iter().map(|&(cost, _)| cost).min();
+    let vehicles = places
+        .iter()
+        .filter(|&&(cost, _)| Some(cost) == least)
+        .map(|&(_, vehicle)| vehicle)
+        .collect::<Vec<_>>();
+    let unplaced = Some(weigh(&old));
+    let is_placed = least.is_some() && least <= unplaced;
+
+    [
+        (
+            is_placed && vehicles.windows(2).any(|pair| pair[0] == pair[1]),
+            "of places on one route",
+        ),
+        (
+            is_placed && vehicles.first() != vehicles.last(),
+            "of places on two routes",
+        ),
+        (least.is_some() && least == unplaced, "of a place and none"),
+    ]
+    .into_iter()
+    .filter_map(|(applies, label)| applies.then_some(label))
 }
 
 fn draws(count: usize) -> &'static str {

@@ -239,7 +239,7 @@ fn refuses_and_goes_on_up_to_a_sheet_out_of_form() {
             lines(&[&[4], &[0, 1, 0], &[2, 0, 1]]) + &good,
             line(&[2]) + &job_a(1_000_001, 0, 50),
             line(&[5]) + &job_a(1_000_001, 0, 50),
-            line(&[8]) + &good,
+            line(&[10]) + &good,
             line(&[2]) + &good,
         ]
         .concat(),
@@ -257,6 +257,201 @@ fn refuses_and_goes_on_up_to_a_sheet_out_of_form() {
     check("shuttle", "", &columns(&[14], 20));
     check("shuttle", &(good.clone() + "\n"), &columns(&[14], 20));
     check("shuttle", &job_a(1, 17, 0), &columns(&[8], 20));
+}
+
+/// A sheet of an arrival (8) or a cancellation (9) on Job A.
+fn live_sheet(call: u64, given: &[u64], plan: [u64; 3]) -> String {
+    lines(&[&[call], given, &plan]) + &job_a(1, 0, 50)
+}
+
+#[test]
+fn plays_a_day_of_job_a() {
+    let none = [0, UNUSED, UNUSED];
+    let one = [1, 0, UNUSED];
+    let both = [2, 1, 0];
+    let changed = |live: u64, cost, plan: [u64; 3]| columns(&[live, cost], 20) + &line(&plan);
+    let refused = |number| columns(&[number], 20);
+
+    check(
+        "calls",
+        &[
+            // Stop 0 comes: 2 there and 2 back. Stop 1 comes before it: 3, 1 and 2, where behind it were 2, 9 and 9.
+            live_sheet(8, &[0, 0, 0], none),
+            live_sheet(8, &[1, 1, 0], one),
+            live_sheet(8, &[1, 3, 0], both),
+            live_sheet(8, &[2, 3, 0], both),
+            // Stop 1 is cancelled, which is done once; then stop 0.
+            live_sheet(9, &[1, 3, 0], both),
+            live_sheet(9, &[1, 1, 0], one),
+            live_sheet(9, &[0, 1, 0], one),
+            live_sheet(9, &[0, 0, 0], none),
+        ]
+        .concat(),
+        &[
+            changed(1, 4, one),
+            changed(3, 6, both),
+            refused(16),
+            refused(12),
+            changed(1, 4, one),
+            refused(17),
+            changed(0, 0, none),
+            refused(17),
+        ]
+        .concat(),
+    );
+}
+
+#[test]
+fn refuses_live_stops_as_the_plan() {
+    let (none, one) = ([0, UNUSED, UNUSED], [1, 0, UNUSED]);
+
+    for call in [8, 9] {
+        for (given, plan) in [
+            ([1, 0, 0], one),
+            ([1, 2, 0], one),
+            ([2, 5, 0], one),
+            ([0, 0, 1], none),
+            ([0, 0, 1 << 31], none),
+            ([1, 3, 0], [2, 0, 0]),
+            ([1, 1, 0], [1, 0, 0]),
+            ([1, 1, 0], [1, 2, UNUSED]),
+            ([1, 1, 0], [3, 0, 1]),
+        ] {
+            check(
+                "calls",
+                &live_sheet(call, &given, plan),
+                &columns(&[11], 20),
+            );
+        }
+    }
+}
+
+#[test]
+fn counts_only_live_stops_as_missed() {
+    let none = [0, UNUSED, UNUSED];
+
+    check(
+        "calls",
+        &[
+            live_sheet(9, &[1, 3, 0], none),
+            live_sheet(9, &[1, 2, 0], none),
+            live_sheet(8, &[0, 2, 0], none),
+        ]
+        .concat(),
+        &[
+            columns(&[1, 100], 20) + &line(&none),
+            columns(&[0, 0], 20) + &line(&none),
+            columns(&[3, 104], 20) + &line(&[1, 0, UNUSED]),
+        ]
+        .concat(),
+    );
+}
+
+#[test]
+fn leaves_an_arrival_off_only_where_that_is_cheaper() {
+    // Placing the stop costs 4.
+    let sheet = |missed| {
+        lines(&[&[8], &[0, 0, 0], &[0, UNUSED]])
+            + &job(
+                [1, 1, 2, 1, 0, missed, 1, 1],
+                &[[0, 0]],
+                &[1],
+                &[&[0, 2], &[2, 0]],
+            )
+    };
+
+    for (missed, cost, plan) in [
+        (0, 0, [0, UNUSED]),
+        (3, 3, [0, UNUSED]),
+        (4, 4, [1, 0]),
+        (5, 4, [1, 0]),
+    ] {
+        check(
+            "calls",
+            &sheet(missed),
+            &(columns(&[1, cost], 20) + &line(&plan)),
+        );
+    }
+}
+
+#[test]
+fn takes_the_first_of_equal_places() {
+    let zero = |vehicles: usize| {
+        job(
+            [vehicles as u64, 3, 1, 1, 0, 0, 1, 1],
+            &vec![[0, 0]; vehicles],
+            &[0, 0, 0],
+            &[&[0]],
+        )
+    };
+    let sheet = |plan: &[u64]| lines(&[&[8], &[2, 3, 0], plan]);
+
+    check(
+        "calls",
+        &(sheet(&[1, 1, 1, 0, UNUSED]) + &zero(2)),
+        &(columns(&[7, 0], 20) + &line(&[2, 1, 2, 1, 0])),
+    );
+    check(
+        "calls",
+        &(sheet(&[0, 2, 1, 0, UNUSED]) + &zero(2)),
+        &(columns(&[7, 0], 20) + &line(&[1, 2, 2, 1, 0])),
+    );
+    check(
+        "calls",
+        &(sheet(&[UNUSED, UNUSED, UNUSED]) + &zero(0)),
+        &(columns(&[7, 0], 20) + &line(&[UNUSED, UNUSED, UNUSED])),
+    );
+}
+
+#[test]
+fn reads_live_stops_as_two_numbers() {
+    let many = |call, given: &[u64]| {
+        lines(&[&[call], given, &[UNUSED; 64]])
+            + &job([0, 64, 1, 1, 0, 5, 1, 1], &[], &[0; 64], &[&[0]])
+    };
+    let half = u32::MAX as u64;
+    let plan = line(&[UNUSED; 64]);
+
+    check(
+        "calls",
+        &[
+            many(8, &[63, half, half >> 1]),
+            many(9, &[63, half, half]),
+            many(8, &[63, 0, 0]),
+            many(9, &[32, 0, 1]),
+            many(9, &[32, half, half - 1]),
+            many(8, &[64, half, half]),
+        ]
+        .concat(),
+        &[
+            columns(&[u64::MAX, 320], 20) + &plan,
+            columns(&[u64::MAX >> 1, 315], 20) + &plan,
+            columns(&[1 << 63, 5], 20) + &plan,
+            columns(&[0, 0], 20) + &plan,
+            columns(&[17], 20),
+            columns(&[12], 20),
+        ]
+        .concat(),
+    );
+
+    // Another count of numbers is no sheet, nor is a number of more than 32 bits.
+    for call in [8, 9] {
+        for given in [
+            &[][..],
+            &[0],
+            &[0, 1],
+            &[0, 1, 0, 0],
+            &[half + 1, 1, 0],
+            &[0, half + 1, 0],
+            &[0, 1, half + 1],
+        ] {
+            check("calls", &many(call, given), &columns(&[14], 20));
+        }
+
+        // The sheet ends before its plan or its job.
+        check("calls", &lines(&[&[call], &[0, 0, 0]]), &columns(&[14], 20));
+        check("calls", &lines(&[&[call]]), &columns(&[14], 20));
+    }
 }
 
 #[test]

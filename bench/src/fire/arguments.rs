@@ -1,4 +1,4 @@
-use sheet::{refusal, Call, Job, Sheet};
+use sheet::{all_stops, decode, given_live, placed_stops, refusal, Call, Job, Sheet};
 
 /// The arguments of a call as they cross the border, of whatever lengths. What the call does not take is not read.
 #[derive(Clone, Debug)]
@@ -16,11 +16,18 @@ pub struct Arguments {
     pub draws: Vec<u32>,
     pub plan: Vec<u32>,
     pub given: Vec<u32>,
+    pub live: u64,
+    pub stop: u32,
 }
 
 impl Arguments {
     /// The arguments of a sheet, with a plan to write where it has none.
     pub fn new(sheet: Sheet, written: impl FnMut() -> u32) -> Self {
+        let (given, live, stop) = if sheet.call.has_live_stops() {
+            (vec![], sheet.live(), sheet.stop())
+        } else {
+            (sheet.given, 0, 0)
+        };
         let job = sheet.job;
         let length = job.vehicles.len() + job.stops.len();
 
@@ -41,8 +48,22 @@ impl Arguments {
             } else {
                 std::iter::repeat_with(written).take(length).collect()
             },
-            given: sheet.given,
+            given,
+            live,
+            stop,
         }
+    }
+
+    /// The set of all stops.
+    pub fn all(&self) -> u64 {
+        all_stops(self.stops.len())
+    }
+
+    /// The set of the plan's stops, empty where the plan is none.
+    pub fn placed(&self) -> u64 {
+        decode(&self.plan, self.vehicles.len() / 2, self.stops.len())
+            .as_ref()
+            .map_or(0, placed_stops)
     }
 
     /// The sheet that the arguments make, or the lowest number that refuses them ("Who can stop a call").
@@ -87,7 +108,11 @@ impl Arguments {
 
         Sheet {
             call: self.call,
-            given: self.given.clone(),
+            given: if self.call.has_live_stops() {
+                given_live(self.stop, self.live)
+            } else {
+                self.given.clone()
+            },
             plan: self.plan.clone(),
             job: Job {
                 vehicles: self

@@ -10,6 +10,7 @@ const READ: &str = "a list that is only read, or a number beside it";
 const PLAN: &str = "the plan, or a number beside it";
 const COST: &str = "a cost, or a number beside it";
 const COUNT: &str = "a count of rounds, the word of settling, or a number beside it";
+const LIVE: &str = "the set of live stops, or a number beside it";
 
 /// Numbers with guard numbers before and after them.
 struct Guarded<T> {
@@ -74,11 +75,18 @@ pub struct Lent {
     costs: [Guarded<u64>; 2],
     /// Rounds, improving rounds, settled.
     counts: [Guarded<u32>; 3],
+    /// The live stops after the call.
+    after: Guarded<u64>,
 }
 
 impl Lent {
     pub fn new(random: &mut Random, arguments: &Arguments) -> Self {
         let mut list = |numbers: &[u32]| Guarded::new(random, numbers, small);
+        let result = |random: &mut Random| {
+            let number = random.number();
+
+            Guarded::new(random, &[number], Random::number)
+        };
 
         Self {
             vehicles: list(&arguments.vehicles),
@@ -92,23 +100,21 @@ impl Lent {
 
                 Guarded::new(random, &[number], small)
             }),
-            costs: [0; 2].map(|_| {
-                let number = random.number();
-
-                Guarded::new(random, &[number], Random::number)
-            }),
+            costs: [0; 2].map(|_| result(random)),
+            after: result(random),
         }
     }
 
     /// Makes the call, and answers the number that it returns.
     #[rustfmt::skip]
     pub fn call(&mut self, arguments: &Arguments) -> u32 {
-        let Self { vehicles, stops, distances, draws, given, plan, costs: [cost, end], counts: [rounds, improving, settled] } = self;
-        let &Arguments { call, locations, linear, quadratic, missed, smoothing, limit, .. } = arguments;
+        let Self { vehicles, stops, distances, draws, given, plan, costs: [cost, end], counts: [rounds, improving, settled], after } = self;
+        let &Arguments { call, locations, linear, quadratic, missed, smoothing, limit, live, stop, .. } = arguments;
         let [vehicles, stops, distances, draws, given, plan] = [vehicles, stops, distances, draws, given, plan]
             .map(|list| (list.address(), list.length()));
         let [cost, end] = [cost, end].map(|cost| cost.address().cast::<f64>());
         let [rounds, improving, settled] = [rounds, improving, settled].map(Guarded::address);
+        let after = after.address();
 
         unsafe {
             match call {
@@ -141,6 +147,14 @@ impl Lent {
                     linear, quadratic, missed, smoothing, limit, draws.0, draws.1, plan.0, plan.1,
                     cost, end, rounds, improving, settled,
                 ),
+                Call::Arrive => raw::planner_arrive(
+                    vehicles.0, vehicles.1, stops.0, stops.1, locations, distances.0, distances.1,
+                    linear, quadratic, missed, plan.0, plan.1, live, stop, after, cost,
+                ),
+                Call::Cancel => raw::planner_cancel(
+                    vehicles.0, vehicles.1, stops.0, stops.1, locations, distances.0, distances.1,
+                    linear, quadratic, missed, plan.0, plan.1, live, stop, after, cost,
+                ),
             }
         }
     }
@@ -155,32 +169,22 @@ impl Lent {
             &self.draws,
             &self.given,
         ];
-        let (plan, costs, counts) = match outcome {
-            Outcome::Refused(_) => (None, [None; 2], [None; 3]),
+        let (plan, costs, counts, live) = match outcome {
+            Outcome::Refused(_) => (None, [None; 2], [None; 3], None),
             Outcome::Accepted {
                 plan,
                 costs,
                 counts,
-            } => (plan.as_deref(), *costs, *counts),
+                live,
+            } => (plan.as_deref(), *costs, *counts, *live),
         };
 
         [
             (read.iter().all(|list| list.is_unchanged()), READ),
             (holds(&self.plan, plan), PLAN),
-            (
-                self.costs
-                    .iter()
-                    .zip(&costs)
-                    .all(|(cost, wanted)| holds(cost, wanted.as_ref().map(std::slice::from_ref))),
-                COST,
-            ),
-            (
-                self.counts
-                    .iter()
-                    .zip(&counts)
-                    .all(|(count, wanted)| holds(count, wanted.as_ref().map(std::slice::from_ref))),
-                COUNT,
-            ),
+            (hold(&self.costs, &costs), COST),
+            (hold(&self.counts, &counts), COUNT),
+            (hold([&self.after], &[live]), LIVE),
         ]
         .into_iter()
         .find_map(|(is_right, name)| (!is_right).then_some(name))
@@ -195,6 +199,17 @@ fn holds<T: Copy + PartialEq>(numbers: &Guarded<T>, wanted: Option<&[T]>) -> boo
     }
 }
 
+/// The same of results.
+fn hold<'a, T: Copy + PartialEq + 'a>(
+    results: impl IntoIterator<Item = &'a Guarded<T>>,
+    wanted: &[Option<T>],
+) -> bool {
+    results
+        .into_iter()
+        .zip(wanted)
+        .all(|(result, wanted)| holds(result, wanted.as_ref().map(std::slice::from_ref)))
+}
+
 fn small(random: &mut Random) -> u32 {
     random.number() as u32
 }
@@ -206,22 +221,25 @@ mod tests {
 
     type Fault = fn(&mut Lent);
 
-    /// A call on Job A, after which numbers are changed as a fault of the library could.
-    fn check(fault: Fault, limit: u32, name: Option<&str>) {
-        let random = &mut Random::new(1, 1);
-        let mut arguments = Arguments::new(sheet_a(Call::Solve), || 5);
+    const MAX_LINEAR_PRICE: u32 = 1_000_000;
 
-        arguments.limit = limit;
+    /// A call on Job A, after which numbers are changed as a fault of the library could.
+    fn check(call: Call, linear: u32, fault: Fault, name: Option<&str>) {
+        let random = &mut Random::new(1, 1);
+        let mut arguments = Arguments::new(sheet_a(call), || 5);
+
+        arguments.linear = linear;
 
         let outcome = Outcome::new(&arguments);
         let mut lent = Lent::new(random, &arguments);
 
+        assert_eq!(outcome.number() == 0, linear <= MAX_LINEAR_PRICE);
         assert_eq!(lent.call(&arguments), outcome.number());
         fault(&mut lent);
-        assert_eq!(lent.difference(&outcome), name);
+        assert_eq!(lent.difference(&outcome), name, "{call:?}");
     }
 
-    const FAULTS: [(Fault, &str); 9] = [
+    const FAULTS: [(Fault, &str); 12] = [
         (|lent| lent.vehicles.memory[0] ^= 1, READ),
         (|lent| *lent.stops.memory.last_mut().unwrap() ^= 1, READ),
         (
@@ -237,15 +255,20 @@ mod tests {
             |lent| lent.counts[2].memory[lent.counts[2].start] ^= 1,
             COUNT,
         ),
+        (|lent| lent.after.memory[lent.after.start - 1] ^= 1, LIVE),
+        (|lent| lent.after.memory[lent.after.start] ^= 1 << 63, LIVE),
+        (|lent| lent.after.memory[lent.after.end] ^= 1, LIVE),
     ];
 
     #[test]
     fn finds_what_was_changed() {
-        for limit in [50, 0] {
-            check(|_| (), limit, None);
+        for call in [Call::Solve, Call::Arrive, Call::Cancel] {
+            for linear in [1, MAX_LINEAR_PRICE + 1] {
+                check(call, linear, |_| (), None);
 
-            for (fault, name) in FAULTS {
-                check(fault, limit, Some(name));
+                for (fault, name) in FAULTS {
+                    check(call, linear, fault, Some(name));
+                }
             }
         }
     }

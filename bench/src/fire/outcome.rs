@@ -1,6 +1,6 @@
 use super::arguments::Arguments;
 use plain::Plain;
-use sheet::{decode, encode, Call, Planner, Routes, Sheet};
+use sheet::{decode, encode, Call, Changed, Planner, Routes, Sheet};
 
 /// What a call must do: the number of its refusal, with all that it was lent as it was, or the plan and the results that it must
 /// leave. What is none is to be as it was.
@@ -12,6 +12,7 @@ pub enum Outcome {
         /// A cost, or start and end cost, as the bits of f64.
         costs: [Option<u64>; 2],
         counts: [Option<u32>; 3],
+        live: Option<u64>,
     },
 }
 
@@ -55,17 +56,31 @@ fn accepted(sheet: &Sheet) -> Outcome {
                 costs: [run.start_cost, run.end_cost].map(|cost| Some(bits(cost))),
                 counts: [run.rounds, run.improving_rounds, run.settled as u64]
                     .map(|count| Some(count as u32)),
+                live: None,
             }
         }
+        Call::Arrive => changed(sheet, Plain::arrive(job, &routes(), sheet.live(), given[0])),
+        Call::Cancel => changed(sheet, Plain::cancel(job, &routes(), sheet.live(), given[0])),
     }
 }
 
-/// What a call leaves that is no run.
+/// What an arrival or a cancellation leaves.
+fn changed(sheet: &Sheet, changed: Changed) -> Outcome {
+    Outcome::Accepted {
+        plan: Some(encode(&changed.routes, sheet.job.stops.len())),
+        costs: [Some(bits(changed.cost)), None],
+        counts: [None; 3],
+        live: Some(changed.live),
+    }
+}
+
+/// What a call of the others leaves that is no run.
 fn left(sheet: &Sheet, routes: Option<&Routes>, cost: Option<u64>) -> Outcome {
     Outcome::Accepted {
         plan: routes.map(|routes| encode(routes, sheet.job.stops.len())),
         costs: [cost.map(bits), None],
         counts: [None; 3],
+        live: None,
     }
 }
 

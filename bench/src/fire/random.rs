@@ -2,7 +2,7 @@
 
 use super::arguments::Arguments;
 use generate::{accepted_sheet, long_job, plan, refuse, sheet, small_job, Random, Sizes};
-use sheet::{Call, Job, Sheet};
+use sheet::{contains, Call, Job, Sheet};
 
 /// Arguments of a call: those of a sheet, some of them changed, and then such lists as no sheet holds.
 pub fn arguments(random: &mut Random, call: Call) -> Arguments {
@@ -62,6 +62,10 @@ fn edge_sheet(random: &mut Random, call: Call) -> Sheet {
 
 /// Changes one argument: to a length or a number at a limit or beyond it, or to numbers without a meaning.
 fn change(random: &mut Random, arguments: &mut Arguments) {
+    if arguments.call.has_live_stops() && random.once_in(2) {
+        return change_live(random, arguments);
+    }
+
     let stop_count = arguments.stops.len() as u32;
     let locations = arguments.locations;
     let location = random.choose(&[0, locations.wrapping_sub(1), locations, u32::MAX]);
@@ -122,6 +126,51 @@ fn change(random: &mut Random, arguments: &mut Arguments) {
     }
 }
 
+/// Changes the stop or the live stops of an arrival or a cancellation.
+fn change_live(random: &mut Random, arguments: &mut Arguments) {
+    let stop_count = arguments.stops.len() as u32;
+    let noise = random.number();
+    let some = random.small(0..=stop_count);
+    let stop = random.choose(&[0, some, stop_count.wrapping_sub(1), stop_count, 63, 64]);
+
+    match random.below(4) {
+        0 => arguments.stop = stop,
+        1 => {
+            arguments.stop =
+                random.choose(&[65, stop.wrapping_add(64), 1 << 31, u32::MAX, noise as u32])
+        }
+        2 => {
+            arguments.live =
+                random.choose(&[0, u64::MAX, noise, arguments.all(), 1 << (noise % 64)])
+        }
+        _ => arguments.live = fitted_live(random, arguments),
+    }
+}
+
+/// Live stops by the plan: its stops, some or all others with them, or such with one too few or too many.
+fn fitted_live(random: &mut Random, arguments: &Arguments) -> u64 {
+    let (placed, all) = (arguments.placed(), arguments.all());
+    let some = placed | (random.number() & all);
+    let live = random.choose(&[placed, some, all]);
+    let mut one_of = |set: u64| {
+        let stops = (0..u64::BITS).filter(|&stop| contains(set, stop));
+        let stops = stops.collect::<Vec<_>>();
+
+        match stops.is_empty() {
+            true => 0,
+            false => 1 << random.choose(&stops),
+        }
+    };
+    let (missing, foreign) = (one_of(placed), one_of(!all));
+
+    match random.below(4) {
+        0 => live & !missing,
+        1 => live | foreign,
+        2 => live ^ 1 << (arguments.stop % u64::BITS),
+        _ => live,
+    }
+}
+
 /// Gives a list another length: one of these, one more or one less. New numbers are a copy of the last.
 fn resize(random: &mut Random, list: &mut Vec<u32>, lengths: &[usize]) {
     let length = match random.below(4) {
@@ -134,10 +183,11 @@ fn resize(random: &mut Random, list: &mut Vec<u32>, lengths: &[usize]) {
     list.resize(length, last);
 }
 
-/// Mostly gives the plan the length that vehicles and stops ask for.
+/// Mostly gives the plan the length that vehicles and stops ask for, and then live stops by it.
 fn fit_plan(random: &mut Random, arguments: &mut Arguments) {
     if !random.once_in(4) {
         arguments.plan = plan(random, arguments.vehicles.len() / 2, arguments.stops.len());
+        arguments.live = fitted_live(random, arguments);
     }
 }
 

@@ -2,18 +2,23 @@
 use mathlib.Core.Path.{_≡_, refl}
 use mathlib.Core.Bool.{true, false, not, and-eq-true-iff}
 use mathlib.Core.List.{List}
-use Prim.Native.Nat.{ℕ, _+_, _≤_}
+use Prim.Native.Nat.{ℕ, _+_, _≤_, _<_}
+use native.Mathlib.Omega.{arith}
 use lib.ListN.{length}
 use lib.Dec.{leb, ltb}
 use borrow.Author.Tests.{ltb-false, leb-true, not-false}
 use Rattle.model.specs.Lists.{member, Once, allBelow, allOnce}
-use Rattle.model.specs.Job.{vehicleCount, stopCount}
-use Rattle.model.specs.Plan.{Lent, Sizes}
+use Rattle.model.specs.declared.Prices.{Prices}
+use Rattle.model.specs.Job.{Job, vehicleCount, stopCount}
+use Rattle.model.specs.Plan.{Lent, Sizes, usedPart, decode}
+use Rattle.model.specs.StopSet.{contains, stopsOf}
+use Rattle.model.specs.Live.{Covers}
 use Rattle.model.specs.Legs.{Affordable}
-use Rattle.model.specs.Refusals.{Arguments, Call, Weigh, StartPlan, TwoOpt, Rebuild, Exhaustive, Pruned, Solve, asked, refusal, within, badDraws, badPrices, badSmoothing, badPlan, badGiven, tooLarge}
-use Rattle.model.proofs.Lists.{neither}
+use Rattle.model.specs.Refusals.{Arguments, naming, Call, Weigh, StartPlan, TwoOpt, Rebuild, Exhaustive, Pruned, Solve, Arrive, Cancel, asked, refusal, within, badDraws, badPrices, badSmoothing, badPlan, allLive, badLive, badLives, badGiven, badArrival, badCancellation, tooLarge}
+use Rattle.model.proofs.Lists.{neither, one-same}
 use Rattle.model.proofs.Counts.{Below, allBelow-below, allOnce-once}
-use Rattle.model.proofs.PlanForm.{isPlan-lent}
+use Rattle.model.proofs.PlanForm.{isPlan-lent, concat-decode}
+use Rattle.call_tests.proofs.Live.{all-live}
 use Rattle.call_refusals.proofs.Passed.{none-applies, sized}
 use Rattle.distance.specs.Table.{InLimits}
 use Rattle.distance.proofs.Limits.{in-limits}
@@ -38,6 +43,8 @@ asked-by-all Rebuild = (refl, refl, refl, refl, refl, refl)
 asked-by-all Exhaustive = (refl, refl, refl, refl, refl, refl)
 asked-by-all Pruned = (refl, refl, refl, refl, refl, refl)
 asked-by-all Solve = (refl, refl, refl, refl, refl, refl)
+asked-by-all Arrive = (refl, refl, refl, refl, refl, refl)
+asked-by-all Cancel = (refl, refl, refl, refl, refl, refl)
 
 -- one or two stops below n, not equal
 pub record Given (n : ℕ) (given : List ℕ) : Type 0 where
@@ -50,6 +57,14 @@ in-range : (a b x : ℕ) → not (within a b x) ≡ false → (a ≤ x) × (x �
 in-range a b x h =
     let r = and-eq-true-iff (leb a x) (leb x b) .0 (not-false _ h) in
     (leb-true _ _ (r .0), leb-true _ _ (r .1))
+
+-- 8: the prices
+pub within-limits : (p : Prices) → badPrices p ≡ false → Affordable p
+unfolding badPrices
+within-limits p h =
+    let a = neither (ltb 1000000 (p .linear)) _ h in
+    let b = neither (ltb 16 (p .quadratic)) (ltb 10000000000000 (p .missed)) (a .1) in
+    record { linear = ltb-false _ _ (a .0); quadratic = ltb-false _ _ (b .0); missed = ltb-false _ _ (b .1) }
 
 module _ (c : Call) (A : Arguments) (e : refusal c A ≡ 0) where
   pub listed : Listed A
@@ -65,16 +80,13 @@ module _ (c : Call) (A : Arguments) (e : refusal c A ≡ 0) where
       }
 
   pub affordable : member 8 (asked c) ≡ true → Affordable (A .job .prices)
-  unfolding badPrices
-  affordable m =
-      let p = A .job .prices in
-      let a = neither (ltb 1000000 (p .linear)) _ (none-applies c A e 8 m) in
-      let b = neither (ltb 16 (p .quadratic)) (ltb 10000000000000 (p .missed)) (a .1) in
-      record { linear = ltb-false _ _ (a .0); quadratic = ltb-false _ _ (b .0); missed = ltb-false _ _ (b .1) }
+  affordable m = within-limits (A .job .prices) (none-applies c A e 8 m)
 
   pub lent : member 11 (asked c) ≡ true → Lent (vehicleCount (A .job)) (stopCount (A .job)) (A .plan)
   unfolding badPlan
-  lent m = isPlan-lent _ _ _ (listed .long) (not-false _ (none-applies c A e 11 m))
+  lent m =
+      let bad = neither (badLives (vehicleCount (A .job)) (stopCount (A .job)) (A .live) (A .plan)) _ (none-applies c A e 11 m) in
+      isPlan-lent _ _ _ (listed .long) (not-false _ (bad .1))
 
   -- 5 and 9: the number of draws and c are within their ranges
   pub drawable : member 5 (asked c) ≡ true → (1 ≤ length (A .draws)) × (length (A .draws) ≤ 1024)
@@ -106,3 +118,30 @@ module _ (c : Call) (A : Arguments) (e : refusal c A ≡ 0) where
   small m =
       let a = neither (ltb 6 (stopCount (A .job))) (ltb 3 (vehicleCount (A .job))) (none-applies c A e 13 m) in
       (ltb-false _ _ (a .0), ltb-false _ _ (a .1))
+
+-- 11: a live set that fits the plan
+pub covers : (c : Call) (J : Job) (plan : List ℕ) (live s : ℕ) → refusal c (naming J plan live s) ≡ 0 → member 11 (asked c) ≡ true
+    → Covers (stopCount J) live (decode (vehicleCount J) plan)
+unfolding badLive
+covers c J plan live s e m =
+    let used : List ℕ = usedPart (vehicleCount J) plan in
+    let bad = neither (badLive (vehicleCount J) (stopCount J) live plan) _ (none-applies c (naming J plan live s) e 11 m) in
+    let p = and-eq-true-iff (allLive live used) (allBelow (stopCount J) (stopsOf live)) .0 (not-false _ (bad .0)) in
+    record { inside = rw concat-decode (all-live live used (p .0)); below = allBelow-below (stopCount J) (stopsOf live) (p .1) }
+
+-- 12, 16 and 17: a stop below n that is not live, or is
+module _ (J : Job) (plan : List ℕ) (live s : ℕ) where
+  named : (c : Call) → refusal c (naming J plan live s) ≡ 0 → member 12 (asked c) ≡ true → s < stopCount J
+  named c e m = stops c (naming J plan live s) e m .below s (omega (arith, one-same s s refl))
+
+  -- so it is one of the 64 that a set has room for
+  pub named-small : (c : Call) → refusal c (naming J plan live s) ≡ 0 → member 12 (asked c) ≡ true → s < 64
+  named-small c e m = omega (arith, named c e m, listed c (naming J plan live s) e .sizes .stops)
+
+  pub arriving : refusal Arrive (naming J plan live s) ≡ 0 → (s < stopCount J) × (contains s live ≡ false)
+  unfolding badArrival
+  arriving e = (named Arrive e refl, none-applies Arrive (naming J plan live s) e 16 refl)
+
+  pub cancelling : refusal Cancel (naming J plan live s) ≡ 0 → (s < stopCount J) × (contains s live ≡ true)
+  unfolding badCancellation
+  cancelling e = (named Cancel e refl, not-false _ (none-applies Cancel (naming J plan live s) e 17 refl))

@@ -1,11 +1,11 @@
 -- The table of refusals is the order in which the calls make their tests.
 use mathlib.Core.Path.{_≡_, refl, ap, sym, _∙_}
-use mathlib.Core.Bool.{Bool, true, false, cond}
-use mathlib.Core.List.{List, []}
+use mathlib.Core.Bool.{Bool, true, false, cond, _||_}
+use mathlib.Core.List.{List, [], _∷_}
 use Prim.Native.Nat.{ℕ, zero, suc}
 use Rattle.model.specs.declared.Prices.{Prices}
 use Rattle.model.specs.Job.{Job, jobOf, vehicleCount, stopCount}
-use Rattle.model.specs.Refusals.{Arguments, asking, Weigh, StartPlan, TwoOpt, Rebuild, Exhaustive, Pruned, Solve, refusal, badVehicles, badStops, badTable, badLength, badDraws, badLocations, badDistances, badPrices, badPlan, badGiven, tooLarge, unpriced}
+use Rattle.model.specs.Refusals.{Arguments, asking, naming, stopGiven, liveSet, Weigh, StartPlan, TwoOpt, Rebuild, Exhaustive, Pruned, Solve, Arrive, Cancel, refusal, badVehicles, badStops, badTable, badLength, badDraws, badLocations, badDistances, badPrices, badPlan, badLive, badLent, badGiven, badArrival, badCancellation, tooLarge, unpriced}
 use Rattle.call_refusals.specs.Order.{ofShape, ofEntries, ofJob, ofNumbers, first}
 
 -- 1 to 4, then the rest
@@ -21,6 +21,19 @@ entries-first : (b₆ b₇ : Bool) (r : ℕ) → cond b₆ 6 (cond b₇ 7 r) ≡
 entries-first true b₇ r = refl
 entries-first false true r = refl
 entries-first false false r = refl
+
+-- 11 and 12, then the rest
+given-first : (b₁₁ b₁₂ : Bool) (r : ℕ) → cond b₁₁ 11 (cond b₁₂ 12 r) ≡ first (cond b₁₁ 11 (cond b₁₂ 12 0)) r
+given-first true b₁₂ r = refl
+given-first false true r = refl
+given-first false false r = refl
+
+-- one number for two conditions
+either-first : (a b : Bool) (r : ℕ) → cond (a || b) 11 r ≡ first (cond b 11 0) (cond a 11 r)
+either-first true true r = refl
+either-first true false r = refl
+either-first false true r = refl
+either-first false false r = refl
 
 -- one number, then the rest
 one-first : (b : Bool) (k r : ℕ) → cond b (suc k) r ≡ first (cond b (suc k) 0) r
@@ -90,9 +103,29 @@ module _ (A : Arguments) where
   unfolding refusal ofEntries
   start-order = leading _
 
-  pub weigh-order : refusal Weigh A ≡ first jobTests (cond (badPlan (vehicleCount (A .job)) (stopCount (A .job)) (A .plan)) 11 0)
+  pub weigh-order : refusal Weigh A ≡ first jobTests (cond (badLent A) 11 0)
   unfolding refusal
   weigh-order = leading _ ∙ ap (first shapeTests) (listed _) ∙ priced _
+
+  given-order : refusal Rebuild A ≡ first jobTests (cond (badLent A) 11 (cond (badGiven (stopCount (A .job)) (A .given)) 12 0))
+  unfolding refusal
+  given-order = leading _ ∙ ap (first shapeTests) (listed _) ∙ priced _
+
+  -- a test after 12
+  given-then : (r : ℕ) → first jobTests (cond (badLent A) 11 (cond (badGiven (stopCount (A .job)) (A .given)) 12 r)) ≡ first (refusal Rebuild A) r
+  given-then r =
+      ap (first jobTests) (given-first (badLent A) (badGiven (stopCount (A .job)) (A .given)) r)
+      ∙ sym (first-of jobTests _ r)
+      ∙ ap (λ (k : ℕ). first k r) (sym given-order)
+
+  -- arrive and cancel make the tests of rebuild, then their own
+  pub arrive-order : refusal Arrive A ≡ first (refusal Rebuild A) (cond (badArrival (liveSet A) (stopGiven A)) 16 0)
+  unfolding refusal
+  arrive-order = leading _ ∙ ap (first shapeTests) (listed _) ∙ priced _ ∙ given-then _
+
+  pub cancel-order : refusal Cancel A ≡ first (refusal Rebuild A) (cond (badCancellation (liveSet A) (stopGiven A)) 17 0)
+  unfolding refusal
+  cancel-order = leading _ ∙ ap (first shapeTests) (listed _) ∙ priced _ ∙ given-then _
 
   -- two_opt makes the tests of rebuild, and pruned those of exhaustive
   pub two-opt-order : refusal Rebuild A ≡ refusal TwoOpt A
@@ -121,10 +154,23 @@ job-order vs ss l ds p plan =
 
 pub rebuild-order : (J : Job) (plan given : List ℕ)
     → refusal Rebuild (asking J plan given) ≡ first (refusal Weigh (asking J plan [])) (cond (badGiven (stopCount J) given) 12 0)
-unfolding refusal
 rebuild-order J plan given =
     let A : Arguments = asking J plan [] in
-    leading A _ ∙ ap (first (shapeTests A)) (listed A _) ∙ priced A _
+    given-order (asking J plan given)
     ∙ ap (first (jobTests A)) (one-first (badPlan (vehicleCount J) (stopCount J) plan) 10 _)
     ∙ sym (first-of (jobTests A) _ _)
     ∙ ap (λ (k : ℕ). first k (cond (badGiven (stopCount J) given) 12 0)) (sym (weigh-order A))
+
+-- 11 of the plan, then of the live set
+pub live-order : (J : Job) (plan : List ℕ) (live s : ℕ)
+    → refusal Rebuild (naming J plan live s)
+    ≡ first (refusal Weigh (asking J plan []))
+    (cond (badLive (vehicleCount J) (stopCount J) live plan) 11 (cond (badGiven (stopCount J) (s ∷ [])) 12 0))
+live-order J plan live s =
+    let A : Arguments = asking J plan [] in
+    let bad : Bool = badLive (vehicleCount J) (stopCount J) live plan in
+    let stop : ℕ = cond (badGiven (stopCount J) (s ∷ [])) 12 0 in
+    given-order (naming J plan live s)
+    ∙ ap (first (jobTests A)) (either-first bad (badPlan (vehicleCount J) (stopCount J) plan) stop)
+    ∙ sym (first-of (jobTests A) _ _)
+    ∙ ap (λ (k : ℕ). first k (cond bad 11 stop)) (sym (weigh-order A))

@@ -2,7 +2,7 @@
 ghost use mathlib.Core.Path.{_≡_};
 ghost use mathlib.Core.List.{[]};
 ghost use Rattle.model.specs.Job.{jobOf};
-ghost use Rattle.model.specs.Refusals.{asking, refusal, Weigh, StartPlan, Rebuild, Exhaustive, Solve, unpriced, running};
+ghost use Rattle.model.specs.Refusals.{asking, naming, refusal, Weigh, StartPlan, Rebuild, Exhaustive, Solve, Arrive, Cancel, unpriced, running};
 ghost use Rattle.call_refusals.specs.Order.{ofShape, ofEntries, ofJob, ofNumbers};
 use model::Prices;
 
@@ -183,4 +183,95 @@ pub fn of_solve(
         return entries;
     }
     of_numbers(prices, smoothing, limit)
+}
+
+// The tests of rebuild, with a set of live stops and one stop: 1 to 4, 6 to 8, 11, 12, or 0.
+fn of_live(
+    vehicles: &[u32],
+    stops: &[u32],
+    locations: u32,
+    distances: &[u32],
+    prices: Prices,
+    plan: &[u32],
+    live: u64,
+    stop: u32,
+) -> u32
+    ensures { λ r. ⌜ r ≡ refusal Rebuild (naming (jobOf (now (vehicles .entry)) (now (stops .entry)) locations (now (distances .entry)) prices) (now (plan .entry)) live stop) ⌝ }
+{
+    let read = of_weigh(vehicles, stops, locations, distances, prices, plan);
+    if read != 0 {
+        return read;
+    }
+    if call_tests::bad_live(vehicles.len() / 2, stops.len(), live, plan) {
+        return 11;
+    }
+    let one = [stop];
+    if call_tests::bad_given(stops.len(), &one) {
+        return 12;
+    }
+    0
+}
+
+// What arrive is refused with: 1 to 4, 6 to 8, 11, 12, 16, or 0.
+pub fn of_arrive(
+    vehicles: &[u32],
+    stops: &[u32],
+    locations: u32,
+    distances: &[u32],
+    prices: Prices,
+    plan: &[u32],
+    live: u64,
+    stop: u32,
+) -> u32
+    ensures { λ r. ⌜ r ≡ refusal Arrive (naming (jobOf (now (vehicles .entry)) (now (stops .entry)) locations (now (distances .entry)) prices) (now (plan .entry)) live stop) ⌝ }
+{
+    let read = of_live(
+        vehicles,
+        stops,
+        locations,
+        distances,
+        prices,
+        plan,
+        live,
+        stop,
+    );
+    if read != 0 {
+        return read;
+    }
+    if call_tests::bad_arrival(live, stop) {
+        return 16;
+    }
+    0
+}
+
+// What cancel is refused with: 1 to 4, 6 to 8, 11, 12, 17, or 0.
+pub fn of_cancel(
+    vehicles: &[u32],
+    stops: &[u32],
+    locations: u32,
+    distances: &[u32],
+    prices: Prices,
+    plan: &[u32],
+    live: u64,
+    stop: u32,
+) -> u32
+    ensures { λ r. ⌜ r ≡ refusal Cancel (naming (jobOf (now (vehicles .entry)) (now (stops .entry)) locations (now (distances .entry)) prices) (now (plan .entry)) live stop) ⌝ }
+{
+    let read = of_live(
+        vehicles,
+        stops,
+        locations,
+        distances,
+        prices,
+        plan,
+        live,
+        stop,
+    );
+    if read != 0 {
+        return read;
+    }
+    if call_tests::bad_cancellation(live, stop) {
+        return 17;
+    }
+    0
 }

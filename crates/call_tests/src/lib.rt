@@ -1,8 +1,10 @@
 // The tests of a call's arguments: one function for each number of the table of refusals.
 ghost use mathlib.Core.Path.{_≡_};
-ghost use Prim.Native.Nat.{_≤_};
+ghost use Prim.Native.Nat.{_≤_, _<_};
 ghost use Rattle.model.specs.Lists.{allBelow};
-ghost use Rattle.model.specs.Refusals.{badVehicles, badStops, badTable, badLength, badDraws, badLocations, badDistances, badPrices, badSmoothing, badLimit, badGiven, tooLarge};
+ghost use Rattle.model.specs.Plan.{Lent, Sizes};
+ghost use Rattle.model.specs.StopSet.{stopsOf};
+ghost use Rattle.model.specs.Refusals.{badVehicles, badStops, badTable, badLength, badDraws, badLocations, badDistances, badPrices, badSmoothing, badLimit, allLive, badLive, badGiven, badArrival, badCancellation, tooLarge};
 use model::Prices;
 
 // Whether each number of a list is below a limit.
@@ -104,6 +106,40 @@ pub fn bad_limit(limit: u32) -> bool
         return true;
     }
     1000000 < limit
+}
+
+// Whether every stop of one set is in another.
+fn inside(part: u64, set: u64) -> bool
+    ensures { λ r. ⌜ r ≡ allLive set (stopsOf part) ⌝ }
+{
+    part & set == part
+}
+
+pub fn bad_live(v: usize, n: usize, live: u64, plan: &[u32]) -> bool
+    requires { ⌜ Sizes v n × Lent v n (now plan) ⌝ }
+    ensures { λ r. ⌜ r ≡ badLive v n live (now (plan .entry)) ⌝ }
+{
+    let placed = solution::placed_set(plan, v, n);
+    if inside(placed, live) {
+        let all = stop_set::below(n as u32);
+        !inside(live, all)
+    } else {
+        true
+    }
+}
+
+pub fn bad_arrival(live: u64, stop: u32) -> bool
+    requires { ⌜ stop < 64 ⌝ }
+    ensures { λ r. ⌜ r ≡ badArrival live stop ⌝ }
+{
+    stop_set::contains(live, stop)
+}
+
+pub fn bad_cancellation(live: u64, stop: u32) -> bool
+    requires { ⌜ stop < 64 ⌝ }
+    ensures { λ r. ⌜ r ≡ badCancellation live stop ⌝ }
+{
+    !stop_set::contains(live, stop)
 }
 
 pub fn bad_given(n: usize, given: &[u32]) -> bool

@@ -169,11 +169,11 @@ module _ (J : Job) (t : List ℕ) (v n : ℕ) (p : Prices) (F : Fits J t v n p) 
 -- ---- a plan that is lent
 
 module _ (t : List ℕ) (v n : ℕ) (p : Prices) (xs : List ℕ) (R : Ready t v n p xs) where
-  lent-few : placed (decode v xs) + length (decode v xs) ≤ 80
+  pub lent-few : placed (decode v xs) + length (decode v xs) ≤ 80
   lent-few =
       omega (arith, lent-length v n xs (R .plan), lent-placed v n xs (R .plan), R .sizes .vehicles, R .sizes .stops)
 
-  lent-64 : Below 64 (concat (decode v xs))
+  pub lent-64 : Below 64 (concat (decode v xs))
   lent-64 s g = omega (arith, R .plan .below s g, R .sizes .stops)
 
   -- route k can be driven

@@ -5,7 +5,8 @@ ghost use Rattle.model.specs.Whole.{whole};
 ghost use Rattle.model.specs.Plan.{placed, decode, Lent, Sizes};
 ghost use Rattle.model.specs.Legs.{Affordable};
 ghost use Rattle.model.specs.Cost.{price, missedCost};
-ghost use Rattle.delivery.specs.Costs.{Ready, Drives, Costs};
+ghost use Rattle.model.specs.Live.{liveCount};
+ghost use Rattle.delivery.specs.Costs.{Ready, Drives, Costs, LiveCosts};
 use model::Prices;
 
 // What a route of that length costs, one product less than the definition has. All routes of a plan together are at most 16,000,000 long.
@@ -59,4 +60,14 @@ pub fn cost(legs: &[u32], v: usize, n: usize, prices: Prices, plan: &[u32]) -> f
 {
     let driving = driving_cost(legs, v, n, prices, plan);
     driving + missed_cost(missed(v, n, plan), prices)
+}
+
+// What a plan costs while the stops of a set are live, which has at least as many stops as are placed.
+pub fn live_cost(legs: &[u32], v: usize, n: usize, prices: Prices, plan: &[u32], live: u64) -> f64
+    requires { ⌜ Ready (now legs) v n prices (now plan) × (placed (decode v (now plan)) ≤ liveCount live) ⌝ }
+    ensures { λ r. ⌜ LiveCosts (now (legs .entry)) v n prices live (decode v (now (plan .entry))) r ⌝ }
+{
+    let driving = driving_cost(legs, v, n, prices, plan);
+    let placed = stop_set::size(solution::placed_set(plan, v, n));
+    driving + missed_cost(stop_set::size(live) - placed, prices)
 }

@@ -1,5 +1,5 @@
 -- Laws of the leg table's places and cells.
-use mathlib.Core.Path.{_≡_, refl, ap, ap₂, _∙_}
+use mathlib.Core.Path.{_≡_, refl, sym, ap, ap₂, _∙_}
 use Prim.Native.Nat.{ℕ, suc, _+_, _-_, _*_, _/_, _%_, _≤_, _<_}
 use native.Mathlib.Nat.{suc-mul, mul-le-mul-right, mul-le-mul-left}
 use native.Mathlib.Decide.{decLt}
@@ -8,14 +8,14 @@ use mathlib.Core.Bool.{Bool, true, false, cond, _&&_, _||_}
 use mathlib.Core.Logic.{_⊎_, inl, inr, ⊎-elim}
 use mathlib.Core.List.{List}
 use lib.Dec.{leb, ltb}
-use lib.ListN.{length, getD, set, List·getD-eq-default}
+use lib.ListN.{length, getD, set, length-set, List·getD-eq-default}
 use lib.Seq.{getD-set-same, getD-set-other}
 use borrow.Author.Count.{below-more}
 use borrow.Author.Tests.{lt-ltb, le-ltb, le-leb, ltb-true, leb-true}
 use Rattle.model.specs.Job.{Job, jobOf, vehicleCount, stopCount, entry, distance}
 use Rattle.model.specs.Legs.{leaves, reaches, legAt, IsPlace}
 use Rattle.model.specs.declared.Prices.{Prices}
-use Rattle.distance.specs.Table.{Square, InLimits, isPlace, cell, LegsOf}
+use Rattle.distance.specs.Table.{Square, InLimits, isPlace, cell, startAt, endAt, between, EndsOf, Row, LegsOf}
 use Rattle.distance.proofs.Laws.{leaves-stop, reaches-stop, leaves-vehicle, reaches-vehicle}
 
 -- ---- the job's table
@@ -74,6 +74,54 @@ filled-more f xs i x h below e =
     below-more (λ k. getD (set xs i x) k 0 ≡ f k) i (λ k m. getD-set-other xs i k x 0 (λ q. omega arith) ∙ below k m)
     (getD-set-same xs i x 0 h ∙ e)
 
+-- ---- where legs begin and end, and the metres between
+
+module _ (J : Job) (a : ℕ) where
+  pub start-there : isPlace (vehicleCount J) (stopCount J) a ≡ true → startAt J a ≡ leaves J a
+  unfolding startAt
+  start-there h = ap (λ (t : Bool). cond t (leaves J a) (J .locations)) h
+
+  pub start-none : isPlace (vehicleCount J) (stopCount J) a ≡ false → startAt J a ≡ J .locations
+  unfolding startAt
+  start-none h = ap (λ (t : Bool). cond t (leaves J a) (J .locations)) h
+
+  pub end-there : isPlace (vehicleCount J) (stopCount J) a ≡ true → endAt J a ≡ reaches J a
+  unfolding endAt
+  end-there h = ap (λ (t : Bool). cond t (reaches J a) (J .locations)) h
+
+  pub end-none : isPlace (vehicleCount J) (stopCount J) a ≡ false → endAt J a ≡ J .locations
+  unfolding endAt
+  end-none h = ap (λ (t : Bool). cond t (reaches J a) (J .locations)) h
+
+module _ (ds : List ℕ) (l a b : ℕ) where
+  pub between-there : a < l → b < l → between ds l a b ≡ entry ds l a b
+  unfolding between
+  between-there h k = ap₂ (λ (s t : Bool). cond (s && t) (entry ds l a b) 0) (lt-ltb a l h) (lt-ltb b l k)
+
+  pub between-no-from : l ≤ a → between ds l a b ≡ 0
+  unfolding between
+  between-no-from h = ap (λ (s : Bool). cond (s && ltb b l) (entry ds l a b) 0) (le-ltb a l h)
+
+  pub between-no-to : a < l → l ≤ b → between ds l a b ≡ 0
+  unfolding between
+  between-no-to h k = ap₂ (λ (s t : Bool). cond (s && t) (entry ds l a b) 0) (lt-ltb a l h) (le-ltb b l k)
+
+-- ---- a row that is filled from the front
+
+module _ (ds : List ℕ) (l from : ℕ) (ends : List ℕ) (first : ℕ) where
+  pub row-begins : (xs : List ℕ) → Row ds l from ends first 0 xs xs
+  row-begins xs = record { long = refl; kept = λ k h. refl; row = λ k h. absurd (omega arith) }
+
+  pub row-more : (m : ℕ) (xs ys : List ℕ) (x : ℕ) → Row ds l from ends first m xs ys → first + m < length ys
+      → x ≡ between ds l from (getD ends m 0) → Row ds l from ends first (m + 1) xs (set ys (first + m) x)
+  row-more m xs ys x R h e =
+      record {
+        long = length-set ys (first + m) x ∙ R .long;
+        kept = λ k b. getD-set-other ys (first + m) k x 0 (λ q. omega arith) ∙ R .kept k b;
+        row = below-more (λ k. getD (set ys (first + m) x) (first + k) 0 ≡ between ds l from (getD ends k 0)) m
+            (λ k b. getD-set-other ys (first + m) (first + k) x 0 (λ q. omega arith) ∙ R .row k b) (getD-set-same ys (first + m) x 0 h ∙ e);
+      }
+
 -- ---- cells, of a job that these lists make
 
 module _ (J : Job) (a b : ℕ) where
@@ -99,6 +147,12 @@ module _ (J : Job) (a b : ℕ) where
       go true = h (leaves J a * J .locations + reaches J b)
       go false = omega arith
 
+-- the first i rows of the leg table are filled
+pub record Rows (vs ss : List ℕ) (l : ℕ) (ds : List ℕ) (i : ℕ) (legs : List ℕ) : Type 0 where
+  pub few : i ≤ 80
+  pub long : length legs ≡ 6400
+  pub cells : (p : Prices) (k : ℕ) → k < 80 * i → getD legs k 0 ≡ cell (jobOf vs ss l ds p) (k / 80) (k % 80)
+
 module _ (vs ss : List ℕ) (l : ℕ) (ds : List ℕ) (I : InLimits vs ss l ds) where
   module _ (p : Prices) (a : ℕ) (h : isPlace (length vs / 2) (length ss) a ≡ true) where
     vehicle-ends : 64 ≤ a → 2 * (a - 64) + 1 < length vs
@@ -116,6 +170,47 @@ module _ (vs ss : List ℕ) (l : ℕ) (ds : List ℕ) (I : InLimits vs ss l ds) 
     reaches-below =
         ⊎-elim (λ s. rw (reaches-stop (jobOf vs ss l ds p) a s) (stop-below s))
         (λ s. rw (reaches-vehicle (jobOf vs ss l ds p) a s) (I .ends (2 * (a - 64) + 1) (vehicle-ends s))) (lt-or-le a 64)
+
+  -- the metres from where a leg begins to where it ends are the cell, also where it leads from or to no place
+  cell-between : (p : Prices) (a b : ℕ) → between ds l (startAt (jobOf vs ss l ds p) a) (endAt (jobOf vs ss l ds p) b) ≡ cell (jobOf vs ss l ds p) a b
+  cell-between p a b = go (isPlace (length vs / 2) (length ss) a) (isPlace (length vs / 2) (length ss) b) refl refl
+    where
+      J : Job
+      J = jobOf vs ss l ds p
+
+      go : (s t : Bool) → isPlace (length vs / 2) (length ss) a ≡ s → isPlace (length vs / 2) (length ss) b ≡ t
+          → between ds l (startAt J a) (endAt J b) ≡ cell J a b
+      go true true A B =
+          ap₂ (between ds l) (start-there J a A) (end-there J b B)
+          ∙ between-there ds l (leaves J a) (reaches J b) (leaves-below p a A) (reaches-below p b B)
+          ∙ sym (cell-there J a b A B)
+      go true false A B =
+          ap₂ (between ds l) (start-there J a A) (end-none J b B)
+          ∙ between-no-to ds l (leaves J a) l (leaves-below p a A) (omega arith)
+          ∙ sym (cell-no-to J a b A B)
+      go false t A B =
+          ap (λ (x : ℕ). between ds l x (endAt J b)) (start-none J a A)
+          ∙ between-no-from ds l l (endAt J b) (omega arith)
+          ∙ sym (cell-no-from J a b A)
+
+  -- one row more
+  module _ (i from : ℕ) (ends xs ys : List ℕ) where
+    pub rows-more : Rows vs ss l ds i xs → i < 80 → ((p : Prices) → from ≡ startAt (jobOf vs ss l ds p) i)
+        → ((p : Prices) → EndsOf (jobOf vs ss l ds p) 80 ends) → Row ds l from ends (80 * i) 80 xs ys → Rows vs ss l ds (i + 1) ys
+    rows-more P h S E R =
+        record {
+          few = omega arith;
+          long = R .long ∙ P .long;
+          cells = λ p k b. ⊎-elim (λ c. R .kept k c ∙ P .cells p k c) (λ c. new p k c (omega arith)) (lt-or-le k (80 * i));
+        }
+      where
+        new : (p : Prices) (k : ℕ) → 80 * i ≤ k → k < 80 * i + 80 → getD ys k 0 ≡ cell (jobOf vs ss l ds p) (k / 80) (k % 80)
+        new p k c b =
+            ap (λ (x : ℕ). getD ys x 0) (omega arith)
+            ∙ R .row (k - 80 * i) (omega arith)
+            ∙ ap₂ (between ds l) (S p) (E p (k - 80 * i) (omega arith))
+            ∙ cell-between p i (k - 80 * i)
+            ∙ ap₂ (cell (jobOf vs ss l ds p)) (omega arith) (omega arith)
 
   -- a list whose every element is its cell is the leg table
   module _ (table : List ℕ) (long : length table ≡ 6400)

@@ -1,2 +1,4 @@
 pub mod Write
 pub mod Routes
+pub mod Shifts
+pub mod Places

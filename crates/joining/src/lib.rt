@@ -1,11 +1,13 @@
-// Writing plans: the plan form of empty routes, and one with two routes replaced.
+// Writing plans: the plan form of empty routes, one with two routes replaced, and one with a stop put in or taken out.
 ghost use mathlib.Core.Path.{_≡_};
-ghost use mathlib.Core.List.{[], _++_};
+ghost use mathlib.Core.List.{[], _∷_, _++_};
 ghost use Prim.Native.Nat.{_+_, _≤_, _<_};
-ghost use lib.ListN.{length, take, replicate};
-ghost use Rattle.model.specs.Lists.{concat};
-ghost use Rattle.model.specs.Plan.{encode, decode, placed, Lent, Sizes};
+ghost use lib.ListN.{length, take, drop, replicate};
+ghost use Rattle.model.specs.Lists.{concat, change};
+ghost use Rattle.model.specs.Plan.{unused, routeOf, encode, decode, placed, Lent, Sizes};
 ghost use Rattle.model.specs.TwoOpt.{setRoute};
+ghost use Rattle.model.specs.Live.{placing};
+ghost use Rattle.joining.specs.Places.{leavingOut};
 ghost use Rattle.pasting.specs.Put.{areaOf};
 
 // Writes the plan of v empty routes.
@@ -123,4 +125,54 @@ pub fn replace_two(
     } else {
         replace_in_order(old, new, v, n, b, second, a, first);
     }
+}
+
+// Puts x before the first number of a list: each number moves one place on, and the last falls out.
+fn shift_in(part: &mut [u32], x: u32)
+    ensures { λ _. ⌜ now (part .exit) ≡ take (length (now (part .entry))) (x ∷ now (part .entry)) ⌝ }
+{
+    let mut carried = x;
+    let mut i = 0;
+    while i < part.len() {
+        let next = part[i];
+        part[i] = carried;
+        carried = next;
+        i += 1;
+    }
+}
+
+// Puts a stop in at place i of route k. Some place of the plan is unused.
+pub fn put_in(plan: &mut [u32], v: usize, n: usize, k: usize, i: usize, stop: u32)
+    requires { ⌜ Sizes v n × Lent v n (now plan) ⌝ }
+    requires { ⌜ (k < v) × (i ≤ length (routeOf (decode v (now plan)) k)) × (placed (decode v (now plan)) < n) ⌝ }
+    ensures { λ _. ⌜ now (plan .exit) ≡ encode n (placing stop (decode v (now (plan .entry))) k i) ⌝ }
+{
+    let at = solution::offset(plan, v, k) + i;
+    shift_in(&mut plan[at..], stop);
+    plan[k] = plan[k] + 1;
+}
+
+// Takes the first number of a list out: each other moves one place to the front, and 4294967295 stands last.
+fn shift_out(part: &mut [u32])
+    requires { ⌜ 1 ≤ length (now part) ⌝ }
+    ensures { λ _. ⌜ now (part .exit) ≡ drop 1 (now (part .entry)) ++ (unused ∷ []) ⌝ }
+{
+    let last = part.len() - 1;
+    let mut i = 0;
+    while i < last {
+        part[i] = part[i + 1];
+        i += 1;
+    }
+    part[last] = 4294967295;
+}
+
+// Takes the stop at place i of route k out.
+pub fn take_out(plan: &mut [u32], v: usize, n: usize, k: usize, i: usize)
+    requires { ⌜ Sizes v n × Lent v n (now plan) ⌝ }
+    requires { ⌜ (k < v) × (i < length (routeOf (decode v (now plan)) k)) ⌝ }
+    ensures { λ _. ⌜ now (plan .exit) ≡ encode n (change k (leavingOut i) (decode v (now (plan .entry)))) ⌝ }
+{
+    let at = solution::offset(plan, v, k) + i;
+    shift_out(&mut plan[at..]);
+    plan[k] = plan[k] - 1;
 }

@@ -9,7 +9,7 @@ use Rattle.model.specs.Region.{regions}
 use Rattle.model.specs.Rebuild.{better, rebuild, exhaustive, pruned}
 use Rattle.model.specs.Settle.{averaged, settles}
 use Rattle.model.specs.Run.{rounds, roundFrom}
-use Rattle.model.specs.Refusals.{refusal, badVehicles, badStops, badTable, badLength, badDraws, badLocations, badDistances, badPrices, badSmoothing, badLimit, badPlan, badGiven, tooLarge}
+use Rattle.model.specs.Refusals.{refusal, badVehicles, badStops, badTable, badLength, badDraws, badLocations, badDistances, badPrices, badSmoothing, badLimit, badPlan, badLive, badGiven, badArrival, badCancellation, tooLarge}
 use Rattle.model.specs.Calls.{roundsIf, totals, made, planLeft, costAnswer, startAnswer, solveAnswer, saidByWeighed, saidByWritten, saidBySolved}
 
 -- floats
@@ -19,7 +19,7 @@ floats = tt
 
 -- tests of arguments
 unfoldable pub conditions : Unit {0}
-unfolding isPlan badVehicles badStops badTable badLength badDraws badLocations badDistances badPrices badSmoothing badLimit badPlan badGiven tooLarge
+unfolding isPlan badVehicles badStops badTable badLength badDraws badLocations badDistances badPrices badSmoothing badLimit badPlan badLive badGiven badArrival badCancellation tooLarge
 conditions = tt
 
 -- everything

@@ -2,15 +2,14 @@
 use mathlib.Core.Path.{_≡_, refl}
 use Prim.Native.Nat.{ℕ}
 use mathlib.Core.List.{[], _∷_}
-use Rattle.model.specs.Refusals.{Arguments, Solve}
+use Rattle.model.specs.Refusals.{Arguments, running, Solve}
 use Rattle.model.specs.Calls.{planLeft, solveAnswer, saidBySolved}
 use Rattle.model.specs.Sums.{jobA}
 use Rattle.model.proofs.Computed.{computed}
 
 -- the arguments of Job A's run, at a round limit
 abbrev pub runA : ℕ → Arguments
-runA limit =
-    record { job = jobA 1 0; plan = 7 ∷ 7 ∷ 7 ∷ []; smoothing = 1; limit = limit; draws = 0 ∷ []; given = [] }
+runA limit = running (jobA 1 0) 1 limit (0 ∷ []) (7 ∷ 7 ∷ 7 ∷ [])
 
 -- start cost 20, end cost 6, 10 rounds, 1 of them improving, settled
 pub answer : saidBySolved (solveAnswer (runA 50)) ≡ record { number = 0; values = 20 ∷ 6 ∷ 10 ∷ 1 ∷ 1 ∷ [] }

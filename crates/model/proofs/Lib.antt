@@ -16,10 +16,13 @@ pub mod Sufficient
 pub mod Computed
 pub mod Sums
 pub mod JobA
+pub mod DayA
 pub mod Points
 pub mod Files
 pub mod Columns
 pub mod Pieces
+pub mod Live
+pub mod Placings
 pub mod Runs
 pub mod Promised
 pub mod Tasks

@@ -12,6 +12,8 @@ use Rattle.model.specs.declared.Written.{Written}
 use Rattle.model.specs.declared.Written.the-variants as D
 use Rattle.model.specs.declared.Solved.{Solved}
 use Rattle.model.specs.declared.Solved.the-variants as S
+use Rattle.model.specs.declared.Changed.{Changed}
+use Rattle.model.specs.declared.Changed.the-variants as C
 use Rattle.model.specs.Whole.{whole, amount}
 use Rattle.model.specs.Job.{Job, vehicleCount, stopCount}
 use Rattle.model.specs.Plan.{Plan, encode, decode}
@@ -20,7 +22,9 @@ use Rattle.model.specs.Nearest.{startPlan}
 use Rattle.model.specs.TwoOpt.{twoOpt}
 use Rattle.model.specs.Rebuild.{rebuild, exhaustive, pruned}
 use Rattle.model.specs.Run.{Task, taskFor, State, Round, startState, rounds, lastState, ends}
-use Rattle.model.specs.Refusals.{Arguments, running, Call, Weigh, StartPlan, TwoOpt, Rebuild, Exhaustive, Pruned, Solve, refusal}
+use Rattle.model.specs.StopSet.{including, excluding}
+use Rattle.model.specs.Live.{liveCost, arrived, cancelled}
+use Rattle.model.specs.Refusals.{Arguments, running, stopGiven, liveSet, Call, Weigh, StartPlan, TwoOpt, Rebuild, Exhaustive, Pruned, Solve, Arrive, Cancel, refusal}
 
 -- ---- a run
 
@@ -77,6 +81,20 @@ made Rebuild A = rebuild (A .job) (lentPlan A) (A .given)
 made Exhaustive A = exhaustive (A .job)
 made Pruned A = pruned (A .job)
 made Solve A = finalState (taskOf A) .plan
+made Arrive A = arrived (A .job) (liveSet A) (stopGiven A) (lentPlan A)
+made Cancel A = cancelled (stopGiven A) (lentPlan A)
+
+-- the live set after an accepted call: an arrival puts its stop in, a cancellation takes it out, and the others leave it
+unfoldable pub newLive : Call → Arguments → ℕ
+newLive Weigh A = liveSet A
+newLive StartPlan A = liveSet A
+newLive TwoOpt A = liveSet A
+newLive Rebuild A = liveSet A
+newLive Exhaustive A = liveSet A
+newLive Pruned A = liveSet A
+newLive Solve A = liveSet A
+newLive Arrive A = including (stopGiven A) (liveSet A)
+newLive Cancel A = excluding (stopGiven A) (liveSet A)
 
 -- refused (by a number above 0): as it was lent; accepted: the lent form of the new plan
 abbrev pub leftBy : ℕ → Arguments → Plan → List ℕ
@@ -101,6 +119,10 @@ abbrev pub solved : ℕ → Totals → Solved
 solved zero t = S.Ran t
 solved (suc k) t = S.Refused (suc k)
 
+abbrev pub changed : ℕ → ℕ → ℕ → Changed
+changed zero live c = C.Stands (record { live = live; cost = whole c })
+changed (suc k) live c = C.Refused (suc k)
+
 -- of weigh, two_opt, rebuild, exhaustive and pruned: the cost of the plan that is left
 unfoldable pub costAnswer : Call → Arguments → Weighed
 costAnswer c A = weighed (refusal c A) (cost (A .job) (made c A))
@@ -112,6 +134,10 @@ startAnswer A = written (refusal StartPlan A)
 -- of solve
 unfoldable pub solveAnswer : Arguments → Solved
 solveAnswer A = solved (refusal Solve A) (totals (taskOf A))
+
+-- of arrive and cancel: the new live set, and the cost of the plan that is left while those stops are live
+unfoldable pub liveAnswer : Call → Arguments → Changed
+liveAnswer c A = changed (refusal c A) (newLive c A) (liveCost (A .job) (newLive c A) (made c A))
 
 -- ---- the number and the values for each case of an answer: 0 where it is accepted, and then its values
 
@@ -133,6 +159,11 @@ saidBySolved (S.Refused k) = record { number = k; values = [] }
 saidBySolved (S.Ran t) =
     record { number = 0; values = amount (t .start) ∷ amount (t .end) ∷ t .rounds ∷ t .improving ∷ cond (t .settled) 1 0 ∷ [] }
 
+-- the live set, the cost
+unfoldable pub saidByChanged : Changed → Said
+saidByChanged (C.Refused k) = record { number = k; values = [] }
+saidByChanged (C.Stands t) = record { number = 0; values = t .live ∷ amount (t .cost) ∷ [] }
+
 -- ---- the number and values that a call has to say, in whole numbers
 
 -- refused (by a number above 0): the number alone; accepted: 0 and the values
@@ -145,6 +176,9 @@ costSaid c A = saying (refusal c A) (cost (A .job) (made c A) ∷ [])
 
 unfoldable pub startSaid : Arguments → Said
 startSaid A = saying (refusal StartPlan A) []
+
+unfoldable pub liveSaid : Call → Arguments → Said
+liveSaid c A = saying (refusal c A) (newLive c A ∷ liveCost (A .job) (newLive c A) (made c A) ∷ [])
 
 -- of a run of these rounds that leaves the plan P
 abbrev pub runValues : Task → List Round → Plan → List ℕ
@@ -169,3 +203,9 @@ pub record Writes (A : Arguments) (r : Written) (left : List ℕ) : Type 0 where
   pub answer : r ≡ startAnswer A
   pub said : saidByWritten r ≡ startSaid A
   pub plan : left ≡ planLeft StartPlan A
+
+-- arrive and cancel
+pub record Changes (c : Call) (A : Arguments) (r : Changed) (left : List ℕ) : Type 0 where
+  pub answer : r ≡ liveAnswer c A
+  pub said : saidByChanged r ≡ liveSaid c A
+  pub plan : left ≡ planLeft c A

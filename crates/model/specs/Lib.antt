@@ -13,8 +13,10 @@ pub mod Region
 pub mod Rebuild
 pub mod Settle
 pub mod Run
+pub mod Live
 pub mod Refusals
 pub mod Calls
 pub mod File
 pub mod Promise
+pub mod Days
 pub mod Sums

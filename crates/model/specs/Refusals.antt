@@ -1,14 +1,15 @@
 -- Specification, 10: the condition of each number, one table with the order in which they are tested, and which calls test which.
 -- (14 is found while reading a file: see File.)
 use Prim.Native.Nat.{ℕ, _+_, _*_, _%_}
-use mathlib.Core.Bool.{Bool, cond, _&&_, _||_, not}
+use mathlib.Core.Bool.{Bool, true, false, cond, _&&_, _||_, not}
 use mathlib.Core.List.{List, [], _∷_}
 use lib.Dec.{eqb, ltb, leb}
-use lib.ListN.{length}
+use lib.ListN.{length, getD}
 use Rattle.model.specs.declared.Prices.{Prices}
 use Rattle.model.specs.Lists.{member, allBelow, allOnce}
 use Rattle.model.specs.Job.{Job, vehicleCount, stopCount}
-use Rattle.model.specs.Plan.{isPlan}
+use Rattle.model.specs.Plan.{usedPart, isPlan}
+use Rattle.model.specs.StopSet.{contains, stopsOf}
 
 -- What a call is given. Where a call has no such argument the list is empty or the number 0, and the call does not test it.
 pub record Arguments : Type 0 where
@@ -18,15 +19,28 @@ pub record Arguments : Type 0 where
   pub limit : ℕ
   pub draws : List ℕ
   pub given : List ℕ
+  pub live : List ℕ
 
 -- the arguments of a call that runs no rounds
 abbrev pub asking : Job → List ℕ → List ℕ → Arguments
-asking J plan given = record { job = J; plan = plan; smoothing = 0; limit = 0; draws = []; given = given }
+asking J plan given = record { job = J; plan = plan; smoothing = 0; limit = 0; draws = []; given = given; live = [] }
+
+-- the arguments of a call that has a set of live stops, with the stop that it adds or cancels
+abbrev pub naming : Job → List ℕ → ℕ → ℕ → Arguments
+naming J plan live s = record { job = J; plan = plan; smoothing = 0; limit = 0; draws = []; given = s ∷ []; live = live ∷ [] }
+
+-- that stop
+abbrev pub stopGiven : Arguments → ℕ
+stopGiven A = getD (A .given) 0 0
+
+-- and that set
+abbrev pub liveSet : Arguments → ℕ
+liveSet A = getD (A .live) 0 0
 
 -- the arguments of a run
 abbrev pub running : Job → ℕ → ℕ → List ℕ → List ℕ → Arguments
 running J smoothing limit draws plan =
-    record { job = J; plan = plan; smoothing = smoothing; limit = limit; draws = draws; given = [] }
+    record { job = J; plan = plan; smoothing = smoothing; limit = limit; draws = draws; given = []; live = [] }
 
 -- what stands for the prices in a call that knows none
 abbrev pub unpriced : Prices
@@ -41,6 +55,8 @@ pub data Call : Type 0 where
   Exhaustive : Call
   Pruned : Call
   Solve : Call
+  Arrive : Call
+  Cancel : Call
 
 -- x is from a to b
 abbrev pub within : ℕ → ℕ → ℕ → Bool
@@ -92,9 +108,38 @@ badLimit limit = not (within 1 1000000 limit)
 unfoldable pub badPlan : ℕ → ℕ → List ℕ → Bool
 badPlan v n plan = not (isPlan v n plan)
 
+-- every stop of a list is live
+abbrev pub allLive : ℕ → List ℕ → Bool
+allLive live [] = true
+allLive live (s ∷ ss) = contains s live && allLive live ss
+
+-- 11, of a live set: it lacks a stop of the plan, or names one not below n
+unfoldable pub badLive : ℕ → ℕ → ℕ → List ℕ → Bool
+badLive v n live plan = not (allLive live (usedPart v plan) && allBelow n (stopsOf live))
+
+-- of the live set, where a call has one
+abbrev pub badLives : ℕ → ℕ → List ℕ → List ℕ → Bool
+badLives v n [] plan = false
+badLives v n (live ∷ none) plan = badLive v n live plan
+
+-- 11 whole: of the live set, where a call has one, or of the plan
+abbrev pub badLent : Arguments → Bool
+badLent A =
+    let v = vehicleCount (A .job) in
+    let n = stopCount (A .job) in
+    badLives v n (A .live) (A .plan) || badPlan v n (A .plan)
+
 -- 12: given stops not below n, equal, or not one or two (the pair's call always has two)
 unfoldable pub badGiven : ℕ → List ℕ → Bool
 badGiven n given = not (allBelow n given && (allOnce given && within 1 2 (length given)))
+
+-- 16: arrival of a stop that is already live
+unfoldable pub badArrival : ℕ → ℕ → Bool
+badArrival live s = contains s live
+
+-- 17: cancellation of one that is not
+unfoldable pub badCancellation : ℕ → ℕ → Bool
+badCancellation live s = not (contains s live)
 
 -- 13: over 6 stops or 3 vehicles
 unfoldable pub tooLarge : ℕ → ℕ → Bool
@@ -119,8 +164,10 @@ tests =
     ∷ record { number = 8; applies = λ A. badPrices (A .job .prices) }
     ∷ record { number = 9; applies = λ A. badSmoothing (A .smoothing) }
     ∷ record { number = 10; applies = λ A. badLimit (A .limit) }
-    ∷ record { number = 11; applies = λ A. badPlan (vehicleCount (A .job)) (stopCount (A .job)) (A .plan) }
+    ∷ record { number = 11; applies = badLent }
     ∷ record { number = 12; applies = λ A. badGiven (stopCount (A .job)) (A .given) }
+    ∷ record { number = 16; applies = λ A. badArrival (liveSet A) (stopGiven A) }
+    ∷ record { number = 17; applies = λ A. badCancellation (liveSet A) (stopGiven A) }
     ∷ record { number = 13; applies = λ A. tooLarge (vehicleCount (A .job)) (stopCount (A .job)) }
     ∷ []
 
@@ -133,6 +180,8 @@ asked Rebuild = 1 ∷ 2 ∷ 3 ∷ 4 ∷ 6 ∷ 7 ∷ 8 ∷ 11 ∷ 12 ∷ []
 asked Exhaustive = 1 ∷ 2 ∷ 3 ∷ 4 ∷ 6 ∷ 7 ∷ 8 ∷ 13 ∷ []
 asked Pruned = 1 ∷ 2 ∷ 3 ∷ 4 ∷ 6 ∷ 7 ∷ 8 ∷ 13 ∷ []
 asked Solve = 1 ∷ 2 ∷ 3 ∷ 4 ∷ 5 ∷ 6 ∷ 7 ∷ 8 ∷ 9 ∷ 10 ∷ []
+asked Arrive = 1 ∷ 2 ∷ 3 ∷ 4 ∷ 6 ∷ 7 ∷ 8 ∷ 11 ∷ 12 ∷ 16 ∷ []
+asked Cancel = 1 ∷ 2 ∷ 3 ∷ 4 ∷ 6 ∷ 7 ∷ 8 ∷ 11 ∷ 12 ∷ 17 ∷ []
 
 -- the first of some tests that the call makes and that applies; 0 where there is none
 abbrev pub firstOf : Call → Arguments → List Test → ℕ

@@ -10,10 +10,14 @@ use Rattle.model.specs.Plan.{Plan, Route, routeOf, vehicleOf, isPlaced}
 use Rattle.model.specs.Cost.{cost}
 use Rattle.model.specs.Nearest.{neighbours}
 
--- the first of the cheapest: a later plan replaces the best so far only where it is strictly cheaper
+-- the first of the cheapest by some weighing: a later plan replaces the best so far only where it is strictly cheaper
+abbrev pub cheapestBy : (Plan → ℕ) → Plan → List Plan → Plan
+cheapestBy weigh best [] = best
+cheapestBy weigh best (P ∷ Ps) = cheapestBy weigh (cond (ltb (weigh P) (weigh best)) P best) Ps
+
+-- by what the plans cost
 abbrev pub cheapest : Job → Plan → List Plan → Plan
-cheapest J best [] = best
-cheapest J best (P ∷ Ps) = cheapest J (cond (ltb (cost J P) (cost J best)) P best) Ps
+cheapest J = cheapestBy (cost J)
 
 -- the plan with another route k
 abbrev pub setRoute : ℕ → Route → Plan → Plan

@@ -47,3 +47,15 @@ pub enum Solved {
     Refused(u32),
     Ran(Totals),
 }
+
+// What stands after an arrival or a cancellation: the set of live stops, and the cost of the plan.
+pub struct Standing {
+    pub live: u64,
+    pub cost: f64,
+}
+
+// The answer of a call that adds a stop or cancels one.
+pub enum Changed {
+    Refused(u32),
+    Stands(Standing),
+}

@@ -12,12 +12,16 @@ use Rattle.model.specs.declared.Written.{Written}
 use Rattle.model.specs.declared.Written.the-variants as D
 use Rattle.model.specs.declared.Solved.{Solved}
 use Rattle.model.specs.declared.Solved.the-variants as S
+use Rattle.model.specs.declared.Standing.{Standing}
+use Rattle.model.specs.declared.Changed.{Changed}
+use Rattle.model.specs.declared.Changed.the-variants as C
 use Rattle.model.specs.Whole.{amount}
 use Rattle.model.specs.Cost.{cost}
+use Rattle.model.specs.Live.{liveCost}
 use Rattle.model.specs.Refusals.{Arguments, Call, StartPlan, Solve, refusal}
-use Rattle.model.specs.Calls.{taskOf, totals, made, weighed, written, solved, costAnswer, startAnswer, solveAnswer, saidByWeighed, saidByWritten, saidBySolved, saying, costSaid, startSaid, solveSaid, Weighs, Writes}
+use Rattle.model.specs.Calls.{taskOf, totals, made, newLive, weighed, written, solved, changed, costAnswer, startAnswer, solveAnswer, liveAnswer, saidByWeighed, saidByWritten, saidBySolved, saidByChanged, saying, costSaid, startSaid, solveSaid, liveSaid, Weighs, Writes, Changes}
 use Rattle.planner.specs.Kept.{Keeps, Solves}
-use Rattle.planner_ffi.specs.Border.{costLeft, Results, results, resultsLeft, valuesIn, HandsCost, HandsPlan, HandsRun}
+use Rattle.planner_ffi.specs.Border.{costLeft, liveLeft, liveCostLeft, Results, results, resultsLeft, valuesIn, HandsCost, HandsPlan, HandsChange, HandsRun}
 
 -- ---- a cost
 
@@ -45,6 +49,45 @@ module _ (c : Call) (A : Arguments) (a : Weighed) (left : List ℕ) (w : Weighs 
       record {
         said = some-cost (refusal c A) (cost (A .job) (made c A)) r old new (ap saidByWeighed (sym (w .answer)) ∙ w .said) n l;
         cost = l;
+        plan = w .plan;
+      }
+
+-- ---- a change of the live stops
+
+module _ (a : Changed) where
+  pub refused-change : (k live : ℕ) (cost : Float) → a ≡ C.Refused k
+      → (k ≡ saidByChanged a .number) × ((live ≡ liveLeft a live) × (cost ≡ liveCostLeft a cost))
+  unfolding saidByChanged liveLeft liveCostLeft
+  refused-change k live cost e =
+      (ap (λ (x : Changed). saidByChanged x .number) (sym e), (ap (λ (x : Changed). liveLeft x live) (sym e), ap (λ (x : Changed). liveCostLeft x cost) (sym e)))
+
+  pub accepted-change : (t : Standing) (live : ℕ) (cost : Float) → a ≡ C.Stands t
+      → (0 ≡ saidByChanged a .number) × ((t .live ≡ liveLeft a live) × (t .cost ≡ liveCostLeft a cost))
+  unfolding saidByChanged liveLeft liveCostLeft
+  accepted-change t live cost e =
+      (ap (λ (x : Changed). saidByChanged x .number) (sym e), (ap (λ (x : Changed). liveLeft x live) (sym e), ap (λ (x : Changed). liveCostLeft x cost) (sym e)))
+
+some-change : (x set k r old new : ℕ) (oldCost newCost : Float) → saidByChanged (changed x set k) ≡ saying x (set ∷ k ∷ [])
+    → r ≡ saidByChanged (changed x set k) .number → new ≡ liveLeft (changed x set k) old → newCost ≡ liveCostLeft (changed x set k) oldCost
+    → saying r (new ∷ amount newCost ∷ []) ≡ saying x (set ∷ k ∷ [])
+unfolding saidByChanged liveLeft liveCostLeft
+some-change zero set k r old new oldCost newCost w h e f = rw (h, e, f) w
+some-change (suc x) set k r old new oldCost newCost w h e f = rw h
+
+module _ (c : Call) (A : Arguments) (a : Changed) (left : List ℕ) (w : Changes c A a left) where
+  pub hands-change : (r old new : ℕ) (oldCost newCost : Float) → r ≡ saidByChanged a .number → new ≡ liveLeft a old → newCost ≡ liveCostLeft a oldCost
+      → HandsChange c A r old new oldCost newCost left
+  unfolding liveAnswer liveSaid
+  hands-change r old new oldCost newCost h e f =
+      let n : r ≡ saidByChanged (liveAnswer c A) .number = h ∙ ap (λ (x : Changed). saidByChanged x .number) (w .answer) in
+      let l : new ≡ liveLeft (liveAnswer c A) old = e ∙ ap (λ (x : Changed). liveLeft x old) (w .answer) in
+      let g : newCost ≡ liveCostLeft (liveAnswer c A) oldCost = f ∙ ap (λ (x : Changed). liveCostLeft x oldCost) (w .answer) in
+      record {
+        said =
+            some-change (refusal c A) (newLive c A) (liveCost (A .job) (newLive c A) (made c A)) r old new oldCost newCost
+            (ap saidByChanged (sym (w .answer)) ∙ w .said) n l g;
+        after = l;
+        cost = g;
         plan = w .plan;
       }
 

@@ -9,9 +9,11 @@ use Rattle.model.specs.declared.Weighed.{Weighed}
 use Rattle.model.specs.declared.Weighed.the-variants as W
 use Rattle.model.specs.declared.Solved.{Solved}
 use Rattle.model.specs.declared.Solved.the-variants as S
+use Rattle.model.specs.declared.Changed.{Changed}
+use Rattle.model.specs.declared.Changed.the-variants as C
 use Rattle.model.specs.Whole.{amount}
 use Rattle.model.specs.Refusals.{Arguments, Call, StartPlan, Solve}
-use Rattle.model.specs.Calls.{costAnswer, solveAnswer, planLeft, saying, costSaid, startSaid, solveSaid}
+use Rattle.model.specs.Calls.{costAnswer, solveAnswer, liveAnswer, planLeft, saying, costSaid, startSaid, solveSaid, liveSaid}
 use Rattle.planner.specs.Kept.{Keeps}
 
 -- prices cross the border as three numbers
@@ -24,6 +26,15 @@ priced linear quadratic missed = record { linear = linear; quadratic = quadratic
 unfoldable pub costLeft : Weighed → Float → Float
 costLeft (W.Refused k) old = old
 costLeft (W.Cost c) old = c
+
+-- of arrive and cancel: the live set, the cost
+unfoldable pub liveLeft : Changed → ℕ → ℕ
+liveLeft (C.Refused k) old = old
+liveLeft (C.Stands t) old = t .live
+
+unfoldable pub liveCostLeft : Changed → Float → Float
+liveCostLeft (C.Refused k) old = old
+liveCostLeft (C.Stands t) old = t .cost
 
 -- of solve, one for each number that is lent
 pub record Results : Type 0 where
@@ -56,6 +67,12 @@ pub record HandsCost (c : Call) (A : Arguments) (r : ℕ) (old new : Float) (lef
 pub record HandsPlan (A : Arguments) (r : ℕ) (left : List ℕ) : Type 0 where
   pub said : saying r [] ≡ startSaid A
   pub plan : left ≡ planLeft StartPlan A
+
+pub record HandsChange (c : Call) (A : Arguments) (r : ℕ) (oldLive newLive : ℕ) (oldCost newCost : Float) (left : List ℕ) : Type 0 where
+  pub said : saying r (newLive ∷ amount newCost ∷ []) ≡ liveSaid c A
+  pub after : newLive ≡ liveLeft (liveAnswer c A) oldLive
+  pub cost : newCost ≡ liveCostLeft (liveAnswer c A) oldCost
+  pub plan : left ≡ planLeft c A
 
 pub record HandsRun (A : Arguments) (r : ℕ) (old new : Results) (left : List ℕ) : Type 0 where
   pub said : saying r (valuesIn new) ≡ solveSaid A

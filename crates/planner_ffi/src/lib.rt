@@ -3,9 +3,10 @@
 ghost use mathlib.Core.Path.{_≡_};
 ghost use mathlib.Core.List.{[], _∷_};
 ghost use Rattle.model.specs.Job.{jobOf};
-ghost use Rattle.model.specs.Refusals.{asking, Weigh, TwoOpt, Rebuild, Exhaustive, Pruned, unpriced, running};
-ghost use Rattle.model.specs.Calls.{saidByWeighed, saidBySolved};
-ghost use Rattle.planner_ffi.specs.Border.{priced, costLeft, results, resultsLeft, HandsCost, HandsPlan, HandsRun};
+ghost use Rattle.model.specs.Refusals.{asking, naming, Weigh, TwoOpt, Rebuild, Exhaustive, Pruned, Arrive, Cancel, unpriced, running};
+ghost use Rattle.model.specs.Calls.{saidByWeighed, saidBySolved, saidByChanged};
+ghost use Rattle.planner_ffi.specs.Border.{priced, costLeft, results, resultsLeft, liveLeft, liveCostLeft, HandsCost, HandsPlan, HandsRun, HandsChange};
+use model::Changed;
 use model::Prices;
 use model::Solved;
 use model::Weighed;
@@ -20,6 +21,22 @@ fn hand_cost(answer: Weighed, cost: &mut f64) -> u32
         Weighed::Refused(number) => number,
         Weighed::Cost(c) => {
             *cost = c;
+            0
+        }
+    }
+}
+
+// The number, the new live set and the cost of an answer.
+fn hand_change(answer: Changed, after: &mut u64, cost: &mut f64) -> u32
+    ensures { λ r. ⌜ r ≡ saidByChanged answer .number ⌝ }
+    ensures { λ _. ⌜ now (after .exit) ≡ liveLeft answer (now (after .entry)) ⌝ }
+    ensures { λ _. ⌜ now (cost .exit) ≡ liveCostLeft answer (now (cost .entry)) ⌝ }
+{
+    match answer {
+        Changed::Refused(number) => number,
+        Changed::Stands(t) => {
+            *after = t.live;
+            *cost = t.cost;
             0
         }
     }
@@ -242,4 +259,78 @@ pub extern "C" fn planner_solve(
         plan,
     );
     hand_totals(answer, start, end, rounds, improving, settled)
+}
+
+// Adds a stop while others are live: it is put where the plan then costs least, or stays unplaced where that is strictly cheaper.
+#[no_mangle]
+pub extern "C" fn planner_arrive(
+    vehicles: &[u32],
+    stops: &[u32],
+    locations: u32,
+    distances: &[u32],
+    linear: u32,
+    quadratic: u32,
+    missed: u64,
+    plan: &mut [u32],
+    live: u64,
+    stop: u32,
+    after: &mut u64,
+    cost: &mut f64,
+) -> u32
+    ensures { λ r. ⌜ HandsChange Arrive (naming (jobOf (now (vehicles .entry)) (now (stops .entry)) locations (now (distances .entry)) (priced linear quadratic missed)) (now (plan .entry)) live stop) r
+        (now (after .entry)) (now (after .exit)) (now (cost .entry)) (now (cost .exit)) (now (plan .exit)) ⌝ }
+{
+    let prices = Prices {
+        linear,
+        quadratic,
+        missed,
+    };
+    let answer = planner::arrive(
+        vehicles,
+        stops,
+        locations,
+        distances,
+        prices,
+        plan,
+        live,
+        stop,
+    );
+    hand_change(answer, after, cost)
+}
+
+// Cancels a live stop: it leaves its route, where it is on one, and is no longer counted as missed.
+#[no_mangle]
+pub extern "C" fn planner_cancel(
+    vehicles: &[u32],
+    stops: &[u32],
+    locations: u32,
+    distances: &[u32],
+    linear: u32,
+    quadratic: u32,
+    missed: u64,
+    plan: &mut [u32],
+    live: u64,
+    stop: u32,
+    after: &mut u64,
+    cost: &mut f64,
+) -> u32
+    ensures { λ r. ⌜ HandsChange Cancel (naming (jobOf (now (vehicles .entry)) (now (stops .entry)) locations (now (distances .entry)) (priced linear quadratic missed)) (now (plan .entry)) live stop) r
+        (now (after .entry)) (now (after .exit)) (now (cost .entry)) (now (cost .exit)) (now (plan .exit)) ⌝ }
+{
+    let prices = Prices {
+        linear,
+        quadratic,
+        missed,
+    };
+    let answer = planner::cancel(
+        vehicles,
+        stops,
+        locations,
+        distances,
+        prices,
+        plan,
+        live,
+        stop,
+    );
+    hand_change(answer, after, cost)
 }

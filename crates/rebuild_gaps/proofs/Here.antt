@@ -31,7 +31,7 @@ use Rattle.rebuild_gaps.specs.Stands.{closed, vacant, Closable, Closes, 
 use Rattle.rebuild_gaps.specs.Here.{Ground, planAt, wayOf, upTo, Here}
 use Rattle.distance.proofs.Laws.{last-near}
 use Rattle.rebuild_survey.proofs.Ways.{way-on}
-use Rattle.rebuild_gaps.proofs.Driving.{table-change, route-le}
+use Rattle.delivery.proofs.Driving.{table-change, route-le}
 use Rattle.rebuild_gaps.proofs.Stands.{closes-whole, opens-whole}
 
 module _ (t : List ℕ) (v n : ℕ) (p : Prices) (xs regions gaps : List ℕ) (G : Ground t v n p xs regions gaps) where

@@ -2,9 +2,11 @@
 use mathlib.Core.Path.{_≡_, sym, _∙_, ap, subst}
 use Prim.Native.Nat.{ℕ, _+_, _-_, _≤_}
 use native.Mathlib.Omega.{arith}
+use mathlib.Core.Logic.{inl, inr}
 use mathlib.Core.Bool.{Bool, true, false, cond}
 use mathlib.Core.List.{List, []}
 use lib.ListN.{length, take, length-take}
+use Rattle.model.proofs.Lists.{Tested, tested}
 use Rattle.file_job.specs.declared.Header.{Header}
 use Rattle.file_job.specs.Reading.{Buffers}
 use Rattle.file_job.proofs.Held.{taskIn, same-task}
@@ -24,6 +26,19 @@ two-given : (call : ℕ) (known ns : List ℕ) → call ≡ 3 → ListFor (hasGi
 two-given call known ns c f =
     let g : ListFor true 2 2 known ns = rw c at f in
     omega (arith, g .0, g .1)
+
+-- arrive and cancel have three given numbers
+three-given : (call : ℕ) (known ns : List ℕ) → 8 ≤ call → call ≤ 9 → ListFor (hasGiven call) (leastGiven call) (mostGiven call) known ns → length ns ≡ 3
+three-given call known ns a b f = go (tested call 8)
+  where
+    go : Tested call 8 → length ns ≡ 3
+    go (inl q) =
+        let g : ListFor true 3 3 known ns = rw (q .0) at f in
+        omega (arith, g .0, g .1)
+    go (inr q) =
+        let e : call ≡ 9 = omega (arith, q .0) in
+        let g : ListFor true 3 3 known ns = rw e at f in
+        omega (arith, g .0, g .1)
 
 module _ (k : Head) (h : Header) (m : Buffers) (given plan out : List ℕ) (y : ReadySheet k h m given plan out) (x : ℕ)
     (e : x ≡ planLength (k .call) (k .plan) (h .vehicles + h .stops)) where
@@ -46,6 +61,8 @@ module _ (k : Head) (h : Header) (m : Buffers) (given plan out : List ℕ) (y : 
         first = rw (H .call) (r .first);
         last = rw (H .call) (r .last);
         pair = λ c. ap length (ap (λ n. take n given) z ∙ H .stops) ∙ two-given (S .call) [] (S .given) (sym (H .call) ∙ c) (r .given);
+        three = λ l. ap length (ap (λ n. take n given) z ∙ H .stops)
+            ∙ three-given (S .call) [] (S .given) (omega (arith, H .call)) (r .last) (r .given);
         printable = record { short = omega (arith, length-take (x - 0) plan, y .long); room = y .room };
       }
 

@@ -6,11 +6,12 @@ use mathlib.Core.List.{List, [], _∷_}
 use lib.ListN.{length, getD}
 use Rattle.model.specs.Job.{Job}
 use Rattle.model.specs.Run.{Task}
-use Rattle.model.specs.Refusals.{Arguments, asking, Call, Weigh, StartPlan, TwoOpt, Rebuild, Exhaustive, Pruned, Solve, running}
-use Rattle.model.specs.Calls.{costAnswer, startAnswer, solveAnswer, planLeft}
+use Rattle.model.specs.Refusals.{Arguments, asking, Call, Weigh, StartPlan, TwoOpt, Rebuild, Exhaustive, Pruned, Solve, Arrive, Cancel, running}
+use Rattle.model.specs.Calls.{costAnswer, startAnswer, solveAnswer, liveAnswer, planLeft}
 use Rattle.file_printing.specs.Printing.{Prints}
-use Rattle.sheet_lines.specs.Printed.{printedWeight, printedStart, printedWeighed, printedSolved}
-use Rattle.sheet_answer.specs.Sheets.{callOf, priceless, printedCosts, printedCall}
+use Rattle.sheet_lines.specs.Printed.{printedWeight, printedStart, printedWeighed, printedSolved, printedChanged}
+use Rattle.sheet_calls.specs.Changing.{changing}
+use Rattle.sheet_answer.specs.Sheets.{callOf, priceless, printedCosts, printedChanges, printedCall}
 use Rattle.sheet_answer.specs.Running.{JobPrints}
 
 -- the two stops of a pair
@@ -25,6 +26,10 @@ module _ (old new : List ℕ) (r : ℕ) where
   left-printed : (c : Call) (A : Arguments) (left : List ℕ) → left ≡ planLeft c A
       → Prints old new r (printedWeighed (costAnswer c A) left) → Prints old new r (printedCosts c A)
   left-printed c A left e p = subst (λ l. Prints old new r (printedWeighed (costAnswer c A) l)) e p
+
+  change-printed : (c : Call) (A : Arguments) (left : List ℕ) → left ≡ planLeft c A
+      → Prints old new r (printedChanged (liveAnswer c A) left) → Prints old new r (printedChanges c A)
+  change-printed c A left e p = subst (λ l. Prints old new r (printedChanged (liveAnswer c A) l)) e p
 
   module _ (call : ℕ) (given plan left : List ℕ) where
     module _ (T : Task) where
@@ -70,3 +75,13 @@ module _ (old new : List ℕ) (r : ℕ) where
           → Prints old new r (printedWeighed (costAnswer Pruned (asking J plan [])) left) → JobPrints call J given plan old new r
       unfolding printedCall
       ran-pruned e l p T j = rw (e, j) (left-printed Pruned (asking J plan []) left l p)
+
+      pub ran-arrive : call ≡ 8 → left ≡ planLeft Arrive (changing J plan given)
+          → Prints old new r (printedChanged (liveAnswer Arrive (changing J plan given)) left) → JobPrints call J given plan old new r
+      unfolding printedCall
+      ran-arrive e l p T j = rw (e, j) (change-printed Arrive (changing J plan given) left l p)
+
+      pub ran-cancel : call ≡ 9 → left ≡ planLeft Cancel (changing J plan given)
+          → Prints old new r (printedChanged (liveAnswer Cancel (changing J plan given)) left) → JobPrints call J given plan old new r
+      unfolding printedCall
+      ran-cancel e l p T j = rw (e, j) (change-printed Cancel (changing J plan given) left l p)

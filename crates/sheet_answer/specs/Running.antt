@@ -17,11 +17,12 @@ use Rattle.sheet_answer.specs.declared.SheetRead.the-variants as R
 use Rattle.sheet_head.specs.Form.{hasPlan, longestPlan}
 use Rattle.sheet_answer.specs.Sheets.{Sheet, ReadableSheet, SheetAt, callOf, printedCall, printedSheet}
 
--- a call's number, the stops and the plan that it is lent, and room to print into
+-- a call's number, the numbers and the plan that it is lent, and room to print into
 pub record Runs (call : ℕ) (given plan out : List ℕ) : Type 0 where
   pub first : 1 ≤ call
-  pub last : call ≤ 7
+  pub last : call ≤ 9
   pub pair : call ≡ 3 → length given ≡ 2
+  pub three : 8 ≤ call → length given ≡ 3
   pub printable : Printable plan out
 
 -- so many bytes are printed for a call, whatever else the task of this job is

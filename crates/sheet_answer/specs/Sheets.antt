@@ -9,12 +9,13 @@ use Rattle.model.specs.Lists.{forEach}
 use Rattle.model.specs.Job.{Job, jobOf}
 use Rattle.model.specs.Run.{Task}
 use Rattle.model.specs.File.{fileOf, Readable, Stands}
-use Rattle.model.specs.Refusals.{Arguments, asking, Call, Weigh, StartPlan, TwoOpt, Rebuild, Exhaustive, Pruned, Solve, unpriced, running}
-use Rattle.model.specs.Calls.{costAnswer, startAnswer, solveAnswer, planLeft, blank}
+use Rattle.model.specs.Refusals.{Arguments, asking, Call, Weigh, StartPlan, TwoOpt, Rebuild, Exhaustive, Pruned, Solve, Arrive, Cancel, unpriced, running}
+use Rattle.model.specs.Calls.{costAnswer, startAnswer, solveAnswer, liveAnswer, planLeft, blank}
 use Rattle.sheet_head.specs.Form.{hasGiven, leastGiven, mostGiven, hasPlan, headOf, ListFor, longestPlan}
-use Rattle.sheet_lines.specs.Printed.{printedWeight, printedStart, printedWeighed, printedSolved}
+use Rattle.sheet_lines.specs.Printed.{printedWeight, printedStart, printedWeighed, printedSolved, printedChanged}
+use Rattle.sheet_calls.specs.Changing.{changing}
 
--- a call's number, the given stops, the plan that is lent, and a task
+-- a call's number, the given numbers, the plan that is lent, and a task
 pub record Sheet : Type 0 where
   pub call : ℕ
   pub given : List ℕ
@@ -23,7 +24,7 @@ pub record Sheet : Type 0 where
 
 -- ---- the form of a sheet
 
--- 1 weigh, 2 start_plan, 3 two_opt, 4 rebuild, 5 exhaustive, 6 pruned, 7 solve
+-- 1 weigh, 2 start_plan, 3 two_opt, 4 rebuild, 5 exhaustive, 6 pruned, 7 solve, 8 arrive, 9 cancel
 abbrev pub callOf : ℕ → Call
 callOf n =
     cond (eqb n 1) Weigh
@@ -31,7 +32,9 @@ callOf n =
     (cond (eqb n 3) TwoOpt
     (cond (eqb n 4) Rebuild
     (cond (eqb n 5) Exhaustive
-    (cond (eqb n 6) Pruned Solve)))))
+    (cond (eqb n 6) Pruned
+    (cond (eqb n 7) Solve
+    (cond (eqb n 8) Arrive Cancel)))))))
 
 -- the written form of a sheet
 unfoldable pub sheetOf : Sheet → List ℕ
@@ -42,7 +45,7 @@ sheetOf S = headOf (S .call) (S .given) (S .plan) ++ fileOf (S .task)
 -- a call without a plan line is lent v + n zeros
 pub record ReadableSheet (S : Sheet) : Type 0 where
   pub first : 1 ≤ S .call
-  pub last : S .call ≤ 7
+  pub last : S .call ≤ 9
   pub given : ListFor (hasGiven (S .call)) (leastGiven (S .call)) (mostGiven (S .call)) [] (S .given)
   pub plan : ListFor (hasPlan (S .call)) 0 longestPlan (blank (S .task .job)) (S .plan)
   pub task : Readable (S .task)
@@ -53,7 +56,7 @@ pub record SheetAt (bytes : List ℕ) (from to : ℕ) (S : Sheet) : Type 0 where
   pub end : to ≡ from + length (sheetOf S)
   pub readable : ReadableSheet S
 
--- the most bytes that a sheet has: its number's line, 8 given stops, a plan of 96 numbers, and the longest job file
+-- the most bytes that a sheet has: its number's line, 8 given numbers, a plan of 96 numbers, and the longest job file
 abbrev pub longestSheet : ℕ
 longestSheet = 15 + 113 + 1345 + 106592
 
@@ -67,7 +70,11 @@ priceless J = jobOf (J .vehicles) (J .stops) (J .locations) (J .distances) unpri
 abbrev pub printedCosts : Call → Arguments → List ℕ
 printedCosts c A = printedWeighed (costAnswer c A) (planLeft c A)
 
--- what each call prints, given these stops, this plan and this task
+-- the live stops, a cost and the plan that the call leaves
+abbrev pub printedChanges : Call → Arguments → List ℕ
+printedChanges c A = printedChanged (liveAnswer c A) (planLeft c A)
+
+-- what each call prints, given these numbers, this plan and this task
 unfoldable pub printedCall : Call → List ℕ → List ℕ → Task → List ℕ
 printedCall Weigh given plan T = printedWeight (costAnswer Weigh (asking (T .job) plan []))
 printedCall StartPlan given plan T =
@@ -80,6 +87,8 @@ printedCall Pruned given plan T = printedCosts Pruned (asking (T .job) plan [])
 printedCall Solve given plan T =
     let A = running (T .job) (T .smoothing) (T .limit) (T .draws) plan in
     printedSolved (solveAnswer A) (planLeft Solve A)
+printedCall Arrive given plan T = printedChanges Arrive (changing (T .job) plan given)
+printedCall Cancel given plan T = printedChanges Cancel (changing (T .job) plan given)
 
 abbrev pub printedSheet : Sheet → List ℕ
 printedSheet S = printedCall (callOf (S .call)) (S .given) (S .plan) (S .task)

@@ -71,6 +71,47 @@ fn run_priced(
     sheet_calls::pruned(vehicles, stops, locations, distances, prices, plan, out)
 }
 
+// Runs a call that changes the set of live stops: arrive or cancel.
+fn run_live(
+    call: u32,
+    vehicles: &[u32],
+    stops: &[u32],
+    locations: u32,
+    distances: &[u32],
+    prices: Prices,
+    given: &[u32],
+    plan: &mut [u32],
+    out: &mut [u8],
+) -> usize
+    requires { ⌜ Runs call (now given) (now plan) (now out) ⌝ }
+    requires { ⌜ 8 ≤ call ⌝ }
+    ensures { λ r. ⌜ JobPrints call (jobOf (now (vehicles .entry)) (now (stops .entry)) locations (now (distances .entry)) prices)
+        (now (given .entry)) (now (plan .entry)) (now (out .entry)) (now (out .exit)) r ⌝ }
+{
+    if call == 8 {
+        return sheet_calls::arrive(
+            vehicles,
+            stops,
+            locations,
+            distances,
+            prices,
+            plan,
+            given,
+            out,
+        );
+    }
+    sheet_calls::cancel(
+        vehicles,
+        stops,
+        locations,
+        distances,
+        prices,
+        plan,
+        given,
+        out,
+    )
+}
+
 // Runs the call of a number and prints its answer: how many bytes it is.
 fn run_call(
     call: u32,
@@ -106,6 +147,19 @@ fn run_call(
             smoothing,
             limit,
             draws,
+            plan,
+            out,
+        );
+    }
+    if 7 < call {
+        return run_live(
+            call,
+            vehicles,
+            stops,
+            locations,
+            distances,
+            prices,
+            given,
             plan,
             out,
         );

@@ -1,11 +1,13 @@
 // The public calls, made for a call sheet and their answers printed.
 ghost use mathlib.Core.Path.{_≡_};
 ghost use mathlib.Core.List.{[], _∷_};
+ghost use lib.ListN.{length};
 ghost use Rattle.model.specs.Job.{jobOf};
-ghost use Rattle.model.specs.Refusals.{asking, Weigh, StartPlan, TwoOpt, Rebuild, Exhaustive, Pruned, Solve, unpriced, running};
-ghost use Rattle.model.specs.Calls.{costAnswer, startAnswer, planLeft, solveAnswer};
+ghost use Rattle.model.specs.Refusals.{asking, Weigh, StartPlan, TwoOpt, Rebuild, Exhaustive, Pruned, Solve, Arrive, Cancel, unpriced, running};
+ghost use Rattle.model.specs.Calls.{costAnswer, startAnswer, planLeft, solveAnswer, liveAnswer};
 ghost use Rattle.file_printing.specs.Printing.{Prints};
-ghost use Rattle.sheet_lines.specs.Printed.{printedWeight, printedStart, Printable, printedWeighed, printedSolved};
+ghost use Rattle.sheet_lines.specs.Printed.{printedWeight, printedStart, Printable, printedWeighed, printedSolved, printedChanged};
+ghost use Rattle.sheet_calls.specs.Changing.{liveOf, changing};
 use model::Prices;
 use model::Solved;
 use model::Weighed;
@@ -172,4 +174,76 @@ pub fn solve(
         Solved::Refused(number) => file_printing::print_refusal(number, out),
         Solved::Ran(t) => sheet_printing::print_totals_and_list(t, plan, out),
     }
+}
+
+// The set of live stops, from its low and its high 32 bits, the second and the third of three given numbers.
+fn live_set(given: &[u32]) -> u64
+    requires { ⌜ length (now given) ≡ 3 ⌝ }
+    ensures { λ r. ⌜ r ≡ liveOf (now (given .entry)) ⌝ }
+{
+    given[1] as u64 + given[2] as u64 * 4294967296
+}
+
+// Adds a stop, and prints the set of live stops, the cost and the plan: how many bytes it is.
+pub fn arrive(
+    vehicles: &[u32],
+    stops: &[u32],
+    locations: u32,
+    distances: &[u32],
+    prices: Prices,
+    plan: &mut [u32],
+    given: &[u32],
+    out: &mut [u8],
+) -> usize
+    requires { ⌜ Printable (now plan) (now out) ⌝ }
+    requires { ⌜ length (now given) ≡ 3 ⌝ }
+    ensures { λ r. ⌜ Prints (now (out .entry)) (now (out .exit)) r
+        (printedChanged (liveAnswer Arrive (changing (jobOf (now (vehicles .entry)) (now (stops .entry)) locations (now (distances .entry)) prices) (now (plan .entry)) (now (given .entry)))) (now (plan .exit))) ⌝ }
+    ensures { λ _. ⌜ now (plan .exit) ≡ planLeft Arrive (changing (jobOf (now (vehicles .entry)) (now (stops .entry)) locations (now (distances .entry)) prices) (now (plan .entry)) (now (given .entry))) ⌝ }
+{
+    let live = live_set(given);
+    let stop = given[0];
+    let answer = planner::arrive(
+        vehicles,
+        stops,
+        locations,
+        distances,
+        prices,
+        plan,
+        live,
+        stop,
+    );
+    sheet_lines::print_changed(answer, plan, out)
+}
+
+// Cancels a stop, and prints the same.
+pub fn cancel(
+    vehicles: &[u32],
+    stops: &[u32],
+    locations: u32,
+    distances: &[u32],
+    prices: Prices,
+    plan: &mut [u32],
+    given: &[u32],
+    out: &mut [u8],
+) -> usize
+    requires { ⌜ Printable (now plan) (now out) ⌝ }
+    requires { ⌜ length (now given) ≡ 3 ⌝ }
+    ensures { λ r. ⌜ Prints (now (out .entry)) (now (out .exit)) r
+        (printedChanged (liveAnswer Cancel (changing (jobOf (now (vehicles .entry)) (now (stops .entry)) locations (now (distances .entry)) prices) (now (plan .entry)) (now (given .entry)))) (now (plan .exit))) ⌝ }
+    ensures { λ _. ⌜ now (plan .exit) ≡ planLeft Cancel (changing (jobOf (now (vehicles .entry)) (now (stops .entry)) locations (now (distances .entry)) prices) (now (plan .entry)) (now (given .entry))) ⌝ }
+{
+    let live = live_set(given);
+    let stop = given[0];
+    let answer = planner::cancel(
+        vehicles,
+        stops,
+        locations,
+        distances,
+        prices,
+        plan,
+        live,
+        stop,
+    );
+    sheet_lines::print_changed(answer, plan, out)
 }

@@ -14,7 +14,7 @@ use Rattle.sheet_head.specs.declared.Listed.{Listed}
 use Rattle.sheet_head.specs.declared.ListRead.{ListRead}
 use Rattle.sheet_head.specs.declared.ListRead.the-variants as L
 use Rattle.sheet_head.specs.declared.HeadRead.the-variants as H
-use Rattle.sheet_head.specs.Form.{hasGiven, leastGiven, mostGiven, hasPlan, lineIf, headOf, ListFor, longestPlan}
+use Rattle.sheet_head.specs.Form.{changesLive, hasGiven, leastGiven, mostGiven, hasPlan, lineIf, headOf, ListFor, longestPlan}
 use Rattle.sheet_head.specs.Reading.{Listing, ListAt, ListIf, Fits, Laid, CallAt, HeadOf, HeadAt}
 use Rattle.sheet_head.proofs.Lists.{same-list}
 
@@ -92,20 +92,21 @@ module _ (bytes : List ℕ) (at least most : ℕ) where
   same-lines true known knownToo ns ms f g s t = ap (line 14) (same-list bytes at ns ms (listing known ns f s) (listing knownToo ms g t))
   same-lines false known knownToo ns ms f g s t = refl
 
--- at most eight stops are given
+-- at most eight numbers are given
 pub few-given : (call : ℕ) → mostGiven call ≤ 8
-few-given call = go (eqb call 3)
+few-given call = go (eqb call 3) (changesLive call)
   where
-    go : (b : Bool) → cond b 2 8 ≤ 8
-    go true = omega arith
-    go false = omega arith
+    go : (b c : Bool) → cond b 2 (cond c 3 8) ≤ 8
+    go true c = omega arith
+    go false true = omega arith
+    go false false = omega arith
 
 -- ---- all of them
 
-one-fitting : (n : ℕ) → n ≤ 7 → Fitting (n ∷ [])
+one-fitting : (n : ℕ) → n ≤ 9 → Fitting (n ∷ [])
 one-fitting n l = fitting-cons (omega arith) fitting-nil
 
-call-length : (n : ℕ) → n ≤ 7 → length (line 14 (n ∷ [])) ≡ 15
+call-length : (n : ℕ) → n ≤ 9 → length (line 14 (n ∷ [])) ≡ 15
 call-length n l = line-length (n ∷ []) (one-fitting n l)
 
 -- the position of the plan's line
@@ -118,7 +119,7 @@ module _ (bytes : List ℕ) (at : ℕ) where
     pub stops : Stands bytes (at + 15) (lineIf (hasGiven call) given)
     pub numbers : Stands bytes (planAt at call given) (lineIf (hasPlan call) plan)
 
-  module _ (call : ℕ) (given plan : List ℕ) (l : call ≤ 7) where
+  module _ (call : ℕ) (given plan : List ℕ) (l : call ≤ 9) where
     pub head-parts : Stands bytes at (headOf call given plan) → Parts call given plan
     unfolding headOf
     head-parts s =
@@ -137,7 +138,7 @@ module _ (bytes : List ℕ) (at : ℕ) where
     head-length = simp (length-append, call-length call l) (omega arith)
 
   -- one number stands there
-  same-call : (call n : ℕ) → call ≤ 7 → n ≤ 7 → Stands bytes at (line 14 (call ∷ [])) → Stands bytes at (line 14 (n ∷ [])) → n ≡ call
+  same-call : (call n : ℕ) → call ≤ 9 → n ≤ 9 → Stands bytes at (line 14 (call ∷ [])) → Stands bytes at (line 14 (n ∷ [])) → n ≡ call
   same-call call n l k s t =
       ap (λ ns. getD ns 0 0) (same-line bytes at (n ∷ []) (call ∷ []) (one-fitting n k) (one-fitting call l) refl t s)
 

@@ -1,4 +1,5 @@
--- The form of the lines before a sheet's job file. The calls' numbers are 1 weigh, 2 start_plan, 3 two_opt, 4 rebuild, 5 exhaustive, 6 pruned, 7 solve.
+-- The form of the lines before a sheet's job file. The calls' numbers are 1 weigh, 2 start_plan, 3 two_opt, 4 rebuild, 5 exhaustive, 6 pruned, 7 solve,
+-- 8 arrive, 9 cancel.
 use mathlib.Core.Path.{_≡_}
 use Prim.Native.Nat.{ℕ, _≤_}
 use mathlib.Core.Bool.{Bool, true, false, cond, _||_}
@@ -7,24 +8,28 @@ use lib.Dec.{eqb}
 use lib.ListN.{length}
 use Rattle.model.specs.File.{line, NoneOver}
 
--- for 3 and 4 a line with the given stops
-abbrev pub hasGiven : ℕ → Bool
-hasGiven n = eqb n 3 || eqb n 4
+-- 8 and 9 change the set of live stops
+abbrev pub changesLive : ℕ → Bool
+changesLive n = eqb n 8 || eqb n 9
 
--- two of them for 3, none to eight for 4
+-- for 3, 4, 8 and 9 a line with given numbers: stops; for 8 and 9 a stop, and the low and the high 32 bits of the set of live stops
+abbrev pub hasGiven : ℕ → Bool
+hasGiven n = eqb n 3 || (eqb n 4 || changesLive n)
+
+-- two of them for 3, none to eight for 4, three for 8 and 9
 abbrev pub leastGiven : ℕ → ℕ
-leastGiven n = cond (eqb n 3) 2 0
+leastGiven n = cond (eqb n 3) 2 (cond (changesLive n) 3 0)
 
 abbrev pub mostGiven : ℕ → ℕ
-mostGiven n = cond (eqb n 3) 2 8
+mostGiven n = cond (eqb n 3) 2 (cond (changesLive n) 3 8)
 
 -- the most numbers of a plan's line
 abbrev pub longestPlan : ℕ
 longestPlan = 96
 
--- for 1, 3 and 4 a line with the plan's numbers
+-- for 1, 3, 4, 8 and 9 a line with the plan's numbers
 abbrev pub hasPlan : ℕ → Bool
-hasPlan n = eqb n 1 || (eqb n 3 || eqb n 4)
+hasPlan n = eqb n 1 || (eqb n 3 || (eqb n 4 || changesLive n))
 
 -- a line that is there, or is not
 abbrev pub lineIf : Bool → List ℕ → List ℕ

@@ -1,7 +1,7 @@
-// What stands before the job file of a call sheet: the call's number, and its lines of given stops and of a plan.
+// What stands before the job file of a call sheet: the call's number, and its lines of given numbers and of a plan.
 use file_columns::Field;
 ghost use mathlib.Core.Path.{_≡_};
-ghost use Rattle.sheet_head.specs.Form.{hasGiven, leastGiven, mostGiven, hasPlan, longestPlan};
+ghost use Rattle.sheet_head.specs.Form.{changesLive, hasGiven, leastGiven, mostGiven, hasPlan, longestPlan};
 ghost use Rattle.sheet_head.specs.Reading.{CountAt, ListAt, ListIf, Fits, Laid, CallAt, Lent, HeadAt};
 
 // A line of numbers that was read: how many there are, and the position after it.
@@ -15,7 +15,7 @@ pub enum ListRead {
     Bad,
 }
 
-// What stands before the job file of a sheet: the call's number, how many stops are given, how many numbers stand in the
+// What stands before the job file of a sheet: the call's number, how many numbers are given, how many numbers stand in the
 // line of the plan (0 where there is none), and where the job file begins.
 pub struct Head {
     pub call: u32,
@@ -62,7 +62,17 @@ fn check_list(bytes: &[u8], at: usize, least: usize, most: usize) -> ListRead
     })
 }
 
-// The given stops of a call, where it has a line with them.
+// Whether a call changes the set of live stops: arrive and cancel.
+fn changes_live(call: u32) -> bool
+    ensures { λ r. ⌜ r ≡ changesLive call ⌝ }
+{
+    if call == 8 {
+        return true;
+    }
+    call == 9
+}
+
+// The given numbers of a call, where it has a line with them.
 fn check_given(bytes: &[u8], at: usize, call: u32) -> ListRead
     ensures { λ r. ⌜ ListIf (hasGiven call) (now (bytes .entry)) at (leastGiven call) (mostGiven call) r ⌝ }
 {
@@ -71,6 +81,9 @@ fn check_given(bytes: &[u8], at: usize, call: u32) -> ListRead
     }
     if call == 4 {
         return check_list(bytes, at, 0, 8);
+    }
+    if changes_live(call) {
+        return check_list(bytes, at, 3, 3);
     }
     ListRead::Read(Listed { count: 0, end: at })
 }
@@ -83,6 +96,9 @@ pub fn has_plan(call: u32) -> bool
         return true;
     }
     if call == 3 {
+        return true;
+    }
+    if changes_live(call) {
         return true;
     }
     call == 4
@@ -109,7 +125,7 @@ fn fill_list(bytes: &[u8], at: usize, count: usize, list: &mut [u32])
     file_lines::fill_lines(bytes, at, 1, count, list);
 }
 
-// The call's number in the line at a position, 0 where none of the seven stands there.
+// The call's number in the line at a position, 0 where none of the nine stands there.
 fn read_call(bytes: &[u8], at: usize) -> u32
     ensures { λ r. ⌜ CallAt (now (bytes .entry)) at r ⌝ }
 {
@@ -117,7 +133,7 @@ fn read_call(bytes: &[u8], at: usize) -> u32
         return 0;
     }
     let call = file_columns::number_at(bytes, at);
-    if 7 < call {
+    if 9 < call {
         return 0;
     }
     call

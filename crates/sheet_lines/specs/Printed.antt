@@ -10,10 +10,13 @@ use Rattle.model.specs.declared.Written.{Written}
 use Rattle.model.specs.declared.Written.the-variants as D
 use Rattle.model.specs.declared.Solved.{Solved}
 use Rattle.model.specs.declared.Solved.the-variants as S
+use Rattle.model.specs.declared.Standing.{Standing}
+use Rattle.model.specs.declared.Changed.{Changed}
+use Rattle.model.specs.declared.Changed.the-variants as C
 use Rattle.model.specs.Whole.{IsWhole}
 use Rattle.model.specs.File.{line, printedRefusal}
 use Rattle.file_printing.specs.Printing.{printedTotals}
-use Rattle.sheet_printing.specs.Costs.{printedCost}
+use Rattle.sheet_printing.specs.Costs.{printedCost, printedStanding}
 use Rattle.sheet_head.specs.Form.{longestPlan}
 
 -- of weigh: the cost
@@ -36,6 +39,11 @@ abbrev pub printedSolved : Solved → List ℕ → List ℕ
 printedSolved (S.Refused number) plan = printedRefusal number
 printedSolved (S.Ran t) plan = printedTotals t ++ line 14 plan
 
+-- of arrive and cancel: the set of live stops, the cost and the plan
+abbrev pub printedChanged : Changed → List ℕ → List ℕ
+printedChanged (C.Refused number) plan = printedRefusal number
+printedChanged (C.Stands t) plan = printedStanding t ++ line 14 plan
+
 -- the most that is printed for a sheet: the numbers of a run and a plan
 abbrev pub mostForSheet : ℕ
 mostForSheet = 14 * longestPlan + 102
@@ -48,3 +56,6 @@ pub record Printable (plan out : List ℕ) : Type 0 where
 -- an answer's cost is a whole number
 abbrev pub Exactly : Weighed → Type 0
 Exactly w = (c : Float) → w ≡ W.Cost c → IsWhole c
+
+abbrev pub StandsExactly : Changed → Type 0
+StandsExactly a = (t : Standing) → a ≡ C.Stands t → IsWhole (t .cost)

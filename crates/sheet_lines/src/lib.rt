@@ -1,6 +1,7 @@
 // What is printed for the answer of a single call.
 ghost use Rattle.file_printing.specs.Printing.{Prints};
-ghost use Rattle.sheet_lines.specs.Printed.{printedWeighed, Printable, Exactly};
+ghost use Rattle.sheet_lines.specs.Printed.{printedWeighed, printedChanged, Printable, Exactly, StandsExactly};
+use model::Changed;
 use model::Weighed;
 
 // A cost and a plan, or a refusal.
@@ -12,5 +13,17 @@ pub fn print_weighed(answer: Weighed, plan: &[u32], out: &mut [u8]) -> usize
     match answer {
         Weighed::Refused(number) => file_printing::print_refusal(number, out),
         Weighed::Cost(c) => sheet_printing::print_cost_and_list(c, plan, out),
+    }
+}
+
+// A set of live stops, a cost and a plan, or a refusal.
+pub fn print_changed(answer: Changed, plan: &[u32], out: &mut [u8]) -> usize
+    requires { ⌜ Printable (now plan) (now out) ⌝ }
+    requires { ⌜ StandsExactly answer ⌝ }
+    ensures { λ r. ⌜ Prints (now (out .entry)) (now (out .exit)) r (printedChanged answer (now (plan .entry))) ⌝ }
+{
+    match answer {
+        Changed::Refused(number) => file_printing::print_refusal(number, out),
+        Changed::Stands(t) => sheet_printing::print_standing_and_list(t, plan, out),
     }
 }

@@ -1,13 +1,14 @@
--- Lines of numbers in 14 columns, and the line of a cost.
+-- Lines of numbers in 14 columns, the line of a cost, and the line of live stops and a cost.
 use mathlib.Core.Path.{_≡_, sym, _∙_, ap}
-use mathlib.Core.List.{List, [], _∷_, _++_, append-nil}
-use Prim.Native.Nat.{ℕ, _+_, _*_, _≤_, _<_}
+use mathlib.Core.List.{List, [], _∷_, _++_, append-nil, append-assoc}
+use Prim.Native.Nat.{ℕ, _+_, _*_, _^_, _≤_, _<_}
 use native.Mathlib.Nat.{zero-add}
 use native.Mathlib.Numerals.{add-one}
 use native.Mathlib.Omega.{arith}
 use lib.Ieee.{Float}
 use lib.ListN.{length, take, getD, set, length-append, length-take}
 use lib.Seq.{take-suc, take-all}
+use Rattle.model.specs.declared.Standing.{Standing}
 use Rattle.model.specs.Whole.{amount}
 use Rattle.model.specs.File.{lineFeed, columns, fields, line, printedRefusal}
 use Rattle.model.proofs.Columns.{columns-length}
@@ -15,7 +16,7 @@ use Rattle.model.proofs.Pieces.{Fitting, fitting-take, fields-length, fields-on
 use Rattle.file_columns.specs.Put.{written}
 use Rattle.file_columns.proofs.Puts.{written-nil}
 use Rattle.file_printing.specs.Printing.{Prints}
-use Rattle.sheet_printing.specs.Costs.{printedCost}
+use Rattle.sheet_printing.specs.Costs.{printedCost, printedStanding}
 use Rattle.file_printing.proofs.Pieces.{after, line-feed, amount-small, refusal-printed}
 
 module _ (old : List ℕ) (at : ℕ) (list : List ℕ) (f : Fitting list) (room : at + (14 * length list + 1) ≤ length old) where
@@ -50,6 +51,22 @@ cost-line c w old a e room h = refusal-printed (amount c) old a (amount-small c)
 pub cost-length : (c : Float) → length (printedCost c) ≡ 21
 unfolding printedCost line fields
 cost-length c = simp (length-append, append-nil, columns-length 19 (amount c) (amount-small c))
+
+pub standing-line : (t : Standing) (w : ℕ) (old a b : List ℕ) → t .live < 10 ^ 20 → w ≡ amount (t .cost) → 41 ≤ length old
+    → a ≡ written old 0 (columns 20 (t .live)) → b ≡ written a 20 (columns 20 w) → set b 40 lineFeed ≡ written old 0 (printedStanding t)
+unfolding printedStanding line fields
+standing-line t w old a b small e room ea eb =
+    let p = columns 20 (t .live) in
+    let q = columns 20 (amount (t .cost)) in
+    let l : length p ≡ 20 = columns-length 19 (t .live) small in
+    let both : length (p ++ q) ≡ 40 = rw (length-append p q, l, columns-length 19 (amount (t .cost)) (amount-small (t .cost))) in
+    line-feed old b 0 40 (p ++ q) both (omega arith) (after old a b 0 20 p q l (omega arith) ea (eb ∙ ap (λ k. written a 20 (columns 20 k)) e))
+    ∙ ap (written old 0) (simp (append-assoc, append-nil))
+
+pub standing-length : (t : Standing) → t .live < 10 ^ 20 → length (printedStanding t) ≡ 41
+unfolding printedStanding line fields
+standing-length t small =
+    simp (length-append, append-nil, columns-length 19 (t .live) small, columns-length 19 (amount (t .cost)) (amount-small (t .cost)))
 
 pub one-piece : (old new text : List ℕ) (k : ℕ) → length text ≡ k → new ≡ written old 0 text → Prints old new k text
 one-piece old new text k l e = record { count = sym l; same = e }

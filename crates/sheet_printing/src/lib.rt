@@ -1,4 +1,5 @@
-// The lines that the program prints for the answer of a single call: a cost, a plan, the numbers of a run.
+// The lines that the program prints for the answer of a single call: a cost, a plan, the numbers of a run, live stops and a cost.
+use model::Standing;
 use model::Totals;
 ghost use mathlib.Core.Path.{_≡_};
 ghost use mathlib.Core.List.{_++_};
@@ -8,7 +9,7 @@ ghost use Rattle.model.specs.File.{line};
 ghost use Rattle.model.specs.Whole.{IsWhole};
 ghost use Rattle.file_columns.specs.Put.{written};
 ghost use Rattle.file_printing.specs.Printing.{printedTotals, Priced, Prints};
-ghost use Rattle.sheet_printing.specs.Costs.{printedCost};
+ghost use Rattle.sheet_printing.specs.Costs.{printedCost, printedStanding};
 
 // A line of numbers in 14 columns each, from a position on.
 fn put_list(out: &mut [u8], at: usize, list: &[u32])
@@ -31,6 +32,17 @@ fn put_cost(out: &mut [u8], c: f64)
 {
     file_columns::put_number(out, 0, 20, whole::to_whole(c));
     out[20] = b'\n';
+}
+
+// The line of a set of live stops and a cost.
+fn put_standing(out: &mut [u8], t: Standing)
+    requires { ⌜ 41 ≤ length (now out) ⌝ }
+    requires { ⌜ IsWhole (t .cost) ⌝ }
+    ensures { λ _. ⌜ now (out .exit) ≡ written (now (out .entry)) 0 (printedStanding t) ⌝ }
+{
+    file_columns::put_number(out, 0, 20, t.live);
+    file_columns::put_number(out, 20, 20, whole::to_whole(t.cost));
+    out[40] = b'\n';
 }
 
 // What is printed for a cost alone: how many bytes it is.
@@ -72,4 +84,15 @@ pub fn print_totals_and_list(t: Totals, list: &[u32], out: &mut [u8]) -> usize
     file_printing::put_totals(out, 0, t);
     put_list(out, 101, list);
     14 * list.len() + 102
+}
+
+// For a set of live stops, a cost and a plan.
+pub fn print_standing_and_list(t: Standing, list: &[u32], out: &mut [u8]) -> usize
+    requires { ⌜ 14 * length (now list) + 42 ≤ length (now out) ⌝ }
+    requires { ⌜ IsWhole (t .cost) ⌝ }
+    ensures { λ r. ⌜ Prints (now (out .entry)) (now (out .exit)) r (printedStanding t ++ line 14 (now (list .entry))) ⌝ }
+{
+    put_standing(out, t);
+    put_list(out, 41, list);
+    14 * list.len() + 42
 }

@@ -95,7 +95,20 @@ module _ (s set : ℕ) where
       go : (m : ℕ) → (set + m * 2) % 2 ≡ set % 2
       go m = omega arith
 
--- ---- the digits of a set after a stop is put in
+-- ---- the digits of a set after a stop is taken out or put in
+
+pub bit-excluding-same : (s set : ℕ) → bit s (excluding s set) ≡ 0
+bit-excluding-same zero set = bit-zero (excluding 0 set) ∙ excluding-low0 set
+bit-excluding-same (suc s) set =
+    bit-suc s (excluding (suc s) set) ∙ ap (bit s) (excluding-half s set) ∙ bit-excluding-same s (set / 2)
+
+pub bit-excluding-other : (t s set : ℕ) → (t ≡ s → ⊥) → bit t (excluding s set) ≡ bit t set
+bit-excluding-other zero zero set f = absurd (f refl)
+bit-excluding-other zero (suc s) set f = bit-zero (excluding (suc s) set) ∙ excluding-low s set ∙ sym (bit-zero set)
+bit-excluding-other (suc t) zero set f = bit-suc t (excluding 0 set) ∙ ap (bit t) (excluding-half0 set) ∙ sym (bit-suc t set)
+bit-excluding-other (suc t) (suc s) set f =
+    bit-suc t (excluding (suc s) set) ∙ ap (bit t) (excluding-half s set)
+    ∙ bit-excluding-other t s (set / 2) (λ e. f (ap suc e)) ∙ sym (bit-suc t set)
 
 pub bit-including-same : (s set : ℕ) → bit s (including s set) ≡ 1
 bit-including-same zero set = bit-zero (including 0 set) ∙ including-low0 set

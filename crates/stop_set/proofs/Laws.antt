@@ -4,7 +4,7 @@ use mathlib.Core.Bool.{Bool, cond}
 use mathlib.Core.Logic.{inl, inr}
 use mathlib.Core.List.{List, [], _∷_}
 use Prim.Native.Nat.{ℕ, zero, suc, _+_, _-_, _*_, _/_, _%_, _^_, _≤_, _<_}
-use native.Mathlib.Nat.{pow-suc, add-zero, zero-add}
+use native.Mathlib.Nat.{pow-suc, add-zero, zero-add, one-mul}
 use native.Mathlib.Decide.{ℕ-discrete, decLt}
 use native.Mathlib.Omega.{arith}
 use lib.Arith.{lt-one}
@@ -17,7 +17,7 @@ use Rattle.model.specs.Lists.{count, member, without, upFrom, Once}
 use Rattle.model.proofs.Lists.{Tested, tested, one-same, one-other, count-member, count-absent, without-absent, count-without, length-without}
 use Rattle.model.specs.StopSet.{bit, contains, excluding, including, consIf, stopsFrom, stopsOf}
 use Rattle.stop_set.specs.Answers.{First}
-use Rattle.stop_set.proofs.Digits.{bit-zero, bit-suc, excluding-half, excluding-low, excluding-half0, excluding-low0, bit-including-same, bit-including-other}
+use Rattle.stop_set.proofs.Digits.{bit-zero, bit-suc, excluding-half, excluding-low, excluding-half0, excluding-low0, bit-excluding-same, bit-excluding-other, bit-including-same, bit-including-other}
 
 -- ---- lists
 
@@ -174,6 +174,13 @@ count-digit s a b e =
       | no f ↦ count-beyond s a (omega arith) ∙ sym (count-beyond s b (omega arith))
     ]
 
+count-out : (s set : ℕ) → bit s set ≡ 0 → count s (stopsOf set) ≡ 0
+count-out s set e =
+    elim (decLt s 64) [
+      | yes h ↦ count-stops s set h ∙ e
+      | no f ↦ count-beyond s set (omega arith)
+    ]
+
 pub member-contains : (s set : ℕ) → s < 64 → member s (stopsOf set) ≡ contains s set
 member-contains s set h = go (tested (bit s set) 1)
   where
@@ -198,6 +205,17 @@ size-stops set h = sym (size-from 64 0 set h)
 pub stops-excluding : (s set : ℕ) → stopsOf (excluding s set) ≡ without s (stopsOf set)
 stops-excluding s set = from-excluding 64 0 s set ∙ ap (λ (x : ℕ). without x (stopsOf set)) (zero-add s)
 
+pub count-excluding : (t s set : ℕ) → count t (stopsOf (excluding s set)) ≡ cond (eqb t s) 0 (count t (stopsOf set))
+count-excluding t s set =
+    elim (ℕ-discrete t s) [
+      | yes p ↦
+          count-out t (excluding s set) (ap (λ (x : ℕ). bit x (excluding s set)) p ∙ bit-excluding-same s set)
+          ∙ sym (ap (λ (b : Bool). cond b 0 (count t (stopsOf set))) (eq-eqb t s p))
+      | no f ↦
+          count-digit t (excluding s set) set (bit-excluding-other t s set f)
+          ∙ sym (ap (λ (b : Bool). cond b 0 (count t (stopsOf set))) (ne-eqb t s f))
+    ]
+
 -- the set that is left where a stop of it is taken out
 module _ (set s rest : ℕ) (h : 1 ≤ count s (stopsOf set)) (e : rest ≡ excluding s set) where
   pub taken-list : stopsOf rest ≡ without s (stopsOf set)
@@ -211,6 +229,14 @@ module _ (set s rest : ℕ) (h : 1 ≤ count s (stopsOf set)) (e : rest ≡ excl
 
 -- ---- a stop put in
 
+-- a stop that is put in and taken out again leaves the set as it was
+pub excluding-including : (s set : ℕ) → bit s set ≡ 0 → excluding s (including s set) ≡ set
+excluding-including s set e =
+    ap (λ (b : ℕ). including s set - b * 2 ^ s) (bit-including-same s set)
+    ∙ ap₂ (λ (x y : ℕ). set + (1 - x) * 2 ^ s - y) e (one-mul (2 ^ s))
+    ∙ ap (λ (x : ℕ). set + x - 2 ^ s) (one-mul (2 ^ s))
+    ∙ omega arith
+
 pub count-including : (t s set : ℕ) → s < 64 → count t (stopsOf (including s set)) ≡ cond (eqb t s) 1 (count t (stopsOf set))
 count-including t s set h =
     elim (ℕ-discrete t s) [
@@ -223,6 +249,11 @@ count-including t s set h =
           count-digit t (including s set) set (bit-including-other t s set f)
           ∙ sym (ap (λ (b : Bool). cond b 1 (count t (stopsOf set))) (ne-eqb t s f))
     ]
+
+pub size-including : (s set : ℕ) → s < 64 → bit s set ≡ 0 → length (stopsOf (including s set)) ≡ suc (length (stopsOf set))
+size-including s set h e =
+    taken-size (including s set) s (excluding s (including s set)) (let c = count-stops s (including s set) h in let b = bit-including-same s set in omega arith) refl
+    ∙ ap (λ (x : ℕ). suc (length (stopsOf x))) (excluding-including s set e)
 
 -- ---- the lowest stop
 

@@ -14,8 +14,9 @@ static const uint32_t draws[] = {0};
 #define LISTS vehicles, COUNT(vehicles), stops, COUNT(stops), 3, distances, COUNT(distances)
 #define PRICES 1, 0, 100
 
-/* the plan of 1 vehicle and 2 stops, which every call is lent */
+/* the plan of 1 vehicle and 2 stops, which every call is lent, and the set of the live ones: both stops */
 static uint32_t plan[] = {5, 5, 5};
+static uint64_t live = 3;
 
 static void show_plan(void)
 {
@@ -96,6 +97,34 @@ static void show_pruned(void)
     show_cost("pruned", refused, cost);
 }
 
+/* an arrival or a cancellation, which takes the live set and writes the new one over it */
+static void show_change(const char *name, uint64_t before, uint32_t refused, double cost)
+{
+    if (refused && (live != before || cost != -1))
+        abort();
+    if (refused)
+        printf("%s refused %" PRIu32, name, refused);
+    else
+        printf("%s live %" PRIu64 " cost %.0f", name, live, cost);
+    show_plan();
+}
+
+static void show_arrive(uint32_t stop)
+{
+    double cost = -1;
+    uint64_t before = live;
+    uint32_t refused = planner_arrive(LISTS, PRICES, plan, COUNT(plan), before, stop, &live, &cost);
+    show_change("arrive", before, refused, cost);
+}
+
+static void show_cancel(uint32_t stop)
+{
+    double cost = -1;
+    uint64_t before = live;
+    uint32_t refused = planner_cancel(LISTS, PRICES, plan, COUNT(plan), before, stop, &live, &cost);
+    show_change("cancel", before, refused, cost);
+}
+
 int main(void)
 {
     const uint32_t both[] = {0, 1};
@@ -112,5 +141,9 @@ int main(void)
     show_rebuild(both, 2);
     show_exhaustive();
     show_pruned();
+    show_cancel(1);
+    show_cancel(1); /* no longer live: refused */
+    show_arrive(1);
+    show_arrive(1); /* live already: refused */
     return 0;
 }

@@ -26,6 +26,20 @@ static size_t few(void) { return fleet == 1 ? 1 : 3; }
 static void exhaustive(void) { refused = planner_exhaustive(LISTS(few(), 6), PRICES, plan, few() + 6, &cost); }
 static void pruned(void) { refused = planner_pruned(LISTS(few(), 6), PRICES, plan, few() + 6, &cost); }
 
+/* of a plan that places every stop; the arrival puts the stop back */
+static uint64_t live;
+
+static void cancel(void)
+{
+    refused = planner_cancel(LISTS(fleet, STOPS), PRICES, plan, fleet + STOPS, UINT64_MAX, 0, &live, &cost);
+}
+
+static void arrive(void)
+{
+    cancel();
+    refused = planner_arrive(LISTS(fleet, STOPS), PRICES, plan, fleet + STOPS, live, 0, &live, &cost);
+}
+
 static void rebuild(void)
 {
     uint32_t given[] = {1, 0};
@@ -92,5 +106,7 @@ int main(void)
     report("exhaustive", exhaustive);
     report("pruned", pruned);
     report("solve", solve);
+    report("arrive", arrive);
+    report("cancel", cancel);
     return 0;
 }

@@ -31,6 +31,19 @@ def show_cost(name, call, plan):
     return show(name, answer, plan)
 
 
+def show_change(name, call, live, plan):
+    """Answers the live set, which is that from before where the call is refused, and the plan."""
+
+    def answer():
+        nonlocal live
+        standing = call(JOB, plan, live, 1)
+        live = standing.live
+        return f" live {live} cost {standing.cost}", standing.plan
+
+    after = show(name, answer, plan)
+    return live, after
+
+
 def show_run(limit, plan):
     def answer():
         run = planner.solve(JOB, smoothing=1, limit=limit, draws=[0])
@@ -56,4 +69,9 @@ plan = show_cost("rebuild", lambda: planner.rebuild(JOB, start, [0]), start)
 start = show_start_plan(plan)
 plan = show_cost("rebuild", lambda: planner.rebuild(JOB, start, [0, 1]), start)
 plan = show_cost("exhaustive", lambda: planner.exhaustive(JOB), plan)
-show_cost("pruned", lambda: planner.pruned(JOB), plan)
+plan = show_cost("pruned", lambda: planner.pruned(JOB), plan)
+live = 3  # both stops
+live, plan = show_change("cancel", planner.cancel, live, plan)
+live, plan = show_change("cancel", planner.cancel, live, plan)  # no longer live: refused
+live, plan = show_change("arrive", planner.arrive, live, plan)
+show_change("arrive", planner.arrive, live, plan)  # live already: refused

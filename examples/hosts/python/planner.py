@@ -16,10 +16,11 @@
     planner.Refused: refused, 12: a given stop does not exist, the given stops are equal, or (rebuild) they are not one or two
 
 A plan is a list of a number for each vehicle and each stop: the lengths of the routes, then the stops of route 0, route 1 and
-so on, then UNUSED in each place that is left. Costs are whole numbers. No list that is passed is changed.
+so on, then UNUSED in each place that is left. A set of stops is one number, stop 0 its lowest bit. Costs are whole numbers. No
+list that is passed is changed.
 
 A call that the library refuses raises Refused, with the number of the table in include/planner.h and its sentence. A number
-that 32 bits (for `missed`: 64) do not hold raises OverflowError, as the library could not be handed it.
+that 32 bits (for `missed` and `live`: 64) do not hold raises OverflowError, as the library could not be handed it.
 
 The calls stand in a shared object that examples/hosts/build links from the proved static library; PLANNER_SO names another.
 """
@@ -31,8 +32,8 @@ from dataclasses import dataclass
 from pathlib import Path
 
 __all__ = [
-    "UNUSED", "Job", "Refused", "Run", "Weighed",
-    "exhaustive", "pruned", "rebuild", "routes", "solve", "start_plan", "two_opt", "weigh",
+    "UNUSED", "Job", "Refused", "Run", "Standing", "Weighed",
+    "arrive", "cancel", "exhaustive", "pruned", "rebuild", "routes", "solve", "start_plan", "two_opt", "weigh",
 ]  # fmt: skip
 
 ROOT = Path(__file__).resolve().parents[3]
@@ -79,8 +80,18 @@ class Run:
     plan: list
 
 
+@dataclass
+class Standing:
+    """What an arrival or a cancellation answers: the set of the stops that are live now, the plan, and its cost, which counts as
+    missed only live stops."""
+
+    live: int
+    cost: int
+    plan: list
+
+
 class Refused(Exception):
-    """A call that was refused, by the lowest number that applies to its arguments."""
+    """A call that was refused, by the number of the first test that applies to its arguments."""
 
     def __init__(self, number):
         self.number = number
@@ -135,6 +146,19 @@ def solve(job, smoothing, limit, draws):
     return Run(int(start.value), int(end.value), rounds.value, improving.value, bool(settled.value), plan.tolist())
 
 
+def arrive(job, plan, live, stop):
+    """The plan after the arrival of a stop while those of the set `live` are. It is put where the plan then costs least, on the
+    lower vehicle and then at the earlier place on ties, or stays on no route where that is strictly cheaper or there is no
+    vehicle."""
+    return _standing("planner_arrive", job, plan, live, stop)
+
+
+def cancel(job, plan, live, stop):
+    """The plan after the cancellation of a stop of the set `live`. It leaves its route, where it is on one, and is no longer
+    counted as missed."""
+    return _standing("planner_cancel", job, plan, live, stop)
+
+
 def routes(job, plan):
     """The stops of each vehicle in order, of a plan that a call answered or took."""
     count = len(job.vehicles)
@@ -144,6 +168,7 @@ def routes(job, plan):
 
 _U32, _U64, _SIZE = ctypes.c_uint32, ctypes.c_uint64, ctypes.c_size_t
 _NUMBERS, _COST = ctypes.POINTER(ctypes.c_uint32), ctypes.POINTER(ctypes.c_double)
+_SET = ctypes.POINTER(ctypes.c_uint64)
 _JOB = [_NUMBERS, _SIZE, _NUMBERS, _SIZE, _U32, _NUMBERS, _SIZE]
 _PRICES = [_U32, _U32, _U64]
 _LIST = [_NUMBERS, _SIZE]
@@ -156,6 +181,8 @@ DECLARATIONS = {
     "planner_exhaustive": [*_JOB, *_PRICES, *_LIST, _COST],
     "planner_pruned": [*_JOB, *_PRICES, *_LIST, _COST],
     "planner_solve": [*_JOB, *_PRICES, _U32, _U32, *_LIST, *_LIST, _COST, _COST, _NUMBERS, _NUMBERS, _NUMBERS],
+    "planner_arrive": [*_JOB, *_PRICES, *_LIST, _U64, _U32, _SET, _COST],
+    "planner_cancel": [*_JOB, *_PRICES, *_LIST, _U64, _U32, _SET, _COST],
 }
 """The parameters of each function, which `tools/declarations` holds to include/planner.h. Each returns a uint32_t."""
 
@@ -187,7 +214,7 @@ def _call(name, *arguments):
 def _argument(kind, value):
     if isinstance(value, array):
         return ctypes.cast(value.buffer_info()[0], kind)
-    if isinstance(value, (ctypes.c_uint32, ctypes.c_double)):
+    if isinstance(value, (ctypes.c_uint32, ctypes.c_uint64, ctypes.c_double)):
         return ctypes.byref(value)
     # ctypes would cut a number that is too wide.
     if not 0 <= value < 1 << 8 * ctypes.sizeof(kind):
@@ -199,6 +226,12 @@ def _weighed(name, job, plan, *more):
     plan, cost = array("I", plan), ctypes.c_double()
     _call(name, *_job(job), *_prices(job), *_list(plan), *more, cost)
     return Weighed(int(cost.value), plan.tolist())
+
+
+def _standing(name, job, plan, live, stop):
+    plan, after, cost = array("I", plan), ctypes.c_uint64(), ctypes.c_double()
+    _call(name, *_job(job), *_prices(job), *_list(plan), live, stop, after, cost)
+    return Standing(after.value, int(cost.value), plan.tolist())
 
 
 def _list(numbers):

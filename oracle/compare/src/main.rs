@@ -1,6 +1,7 @@
 //! Runs two programs on the same random inputs and compares what they print, byte for byte. It stops at the first
 //! difference and looks for the smallest input that shows one.
 
+mod days;
 mod program;
 mod shrink;
 
@@ -17,9 +18,16 @@ use std::{
 
 const USAGE: &str = "\
 usage: compare [--seed S] [--count N] [--batch B] [--seconds T] [--from I] [--input FILE] KIND PROGRAM PROGRAM
-KIND: what `oracle gen` makes. PROGRAM: a command with its arguments, which reads an input and prints answers.
+KIND: what `oracle gen` makes, or days: arrivals and cancellations one after another, each sheet made of the second
+program's last answer. PROGRAM: a command with its arguments, which reads an input and prints answers.
 N inputs are made from the seed S, from number I on, and handed over B at a time (job files one at a time).
 A program that runs longer than T seconds is stopped, which is a difference. With --input only that file is compared.";
+
+/// Days have no texts of their own: a sheet depends on the answers before it.
+enum Inputs {
+    Texts(Kind),
+    Days,
+}
 
 struct Options {
     seed: u64,
@@ -27,7 +35,7 @@ struct Options {
     batch: u64,
     from: u64,
     input: Option<String>,
-    kind: Kind,
+    inputs: Inputs,
     programs: [Program; 2],
 }
 
@@ -64,20 +72,22 @@ fn options() -> Result<Options, Box<dyn Error>> {
     let [kind, one, other] = &words[..] else {
         return Err(USAGE.into());
     };
-    let kind = kind.parse::<Kind>()?;
+    let inputs = match kind.as_str() {
+        "days" => Inputs::Days,
+        kind => Inputs::Texts(kind.parse()?),
+    };
     let program = |command: &str| Program::new(command, Duration::from_secs(seconds));
 
     Ok(Options {
         seed,
         count,
-        batch: if kind.is_whole_input() {
-            1
-        } else {
-            batch.max(1)
+        batch: match inputs {
+            Inputs::Texts(kind) if kind.is_whole_input() => 1,
+            _ => batch.max(1),
         },
         from,
         input,
-        kind,
+        inputs,
         programs: [program(one)?, program(other)?],
     })
 }
@@ -95,6 +105,13 @@ fn run(options: &Options) -> Result<bool, Box<dyn Error>> {
         };
     }
 
+    match options.inputs {
+        Inputs::Texts(kind) => compare_texts(options, kind),
+        Inputs::Days => days::run(options),
+    }
+}
+
+fn compare_texts(options: &Options, kind: Kind) -> Result<bool, Box<dyn Error>> {
     let start = Instant::now();
     let mut shown = start;
 
@@ -102,7 +119,7 @@ fn run(options: &Options) -> Result<bool, Box<dyn Error>> {
         let indexes = first..(first + options.batch).min(options.count);
         let texts = indexes
             .clone()
-            .map(|index| generate::text(options.seed, options.from + index, options.kind))
+            .map(|index| generate::text(options.seed, options.from + index, kind))
             .collect::<Vec<_>>();
         let input = texts.concat();
 
@@ -155,7 +172,8 @@ fn differ(options: &Options, input: &[u8]) -> io::Result<bool> {
 /// Shows the smallest input found on which the programs differ.
 fn report(options: &Options, input: &[u8]) -> Result<bool, Box<dyn Error>> {
     let mut tried = 0;
-    let input = shrink::shrink(input, options.kind.is_job(), |input| {
+    let is_job = matches!(options.inputs, Inputs::Texts(kind) if kind.is_job());
+    let input = shrink::shrink(input, is_job, |input| {
         tried += 1;
         differ(options, input)
     })?;

@@ -88,6 +88,10 @@ impl Answer {
     pub fn is_complete(&self) -> bool {
         self.failure.is_none()
     }
+
+    pub fn output(&self) -> &[u8] {
+        &self.output
+    }
 }
 
 impl fmt::Display for Answer {

@@ -1,4 +1,6 @@
-use sheet::{decode, encode, read_job, read_sheet, write_job, write_sheet, Call, Job, Sheet};
+use sheet::{
+    decode, encode, given_live, read_job, read_sheet, write_job, write_sheet, Call, Job, Sheet,
+};
 use std::io;
 
 /// The smallest input found for which `differ` still holds.
@@ -97,6 +99,7 @@ fn candidates(sheet: &Sheet) -> Vec<Change<Sheet>> {
     }
 
     for stop in 0..job.stops.len() {
+        changes.push(Box::new(move |sheet| not_live(sheet, stop)));
         changes.push(Box::new(move |sheet| unplaced(sheet, stop)));
     }
 
@@ -231,16 +234,28 @@ fn with_routes(
 }
 
 fn without_stop(sheet: &Sheet, stop: usize) -> Option<Sheet> {
-    if stop >= sheet.job.stops.len() || sheet.given.contains(&(stop as u32)) {
+    let given_stops = if sheet.call.has_live_stops() {
+        &sheet.given[..1]
+    } else {
+        &sheet.given
+    };
+
+    if stop >= sheet.job.stops.len() || given_stops.contains(&(stop as u32)) {
         return None;
     }
 
     let mut job = sheet.job.clone();
-    let given = sheet
-        .given
+    let mut given = given_stops
         .iter()
         .map(|&other| other - (other as usize > stop) as u32)
-        .collect();
+        .collect::<Vec<_>>();
+
+    if sheet.call.has_live_stops() {
+        let below = sheet.live() & ((1 << stop) - 1);
+        let above = sheet.live() >> stop >> 1 << stop;
+
+        given = given_live(given[0], below | above);
+    }
 
     job.stops.remove(stop);
     with_routes(sheet, job, given, |routes| {
@@ -273,6 +288,22 @@ fn unplaced(sheet: &Sheet, stop: usize) -> Option<Sheet> {
     }
 
     let new = with_routes(sheet, sheet.job.clone(), sheet.given.clone(), |routes| {
+        for route in routes {
+            route.retain(|&other| other != stop);
+        }
+    })?;
+
+    (new != *sheet).then_some(new)
+}
+
+/// The sheet with a stop that is neither live nor placed.
+fn not_live(sheet: &Sheet, stop: usize) -> Option<Sheet> {
+    if !sheet.call.has_live_stops() {
+        return None;
+    }
+
+    let given = given_live(sheet.stop(), sheet.live() & !(1 << stop));
+    let new = with_routes(sheet, sheet.job.clone(), given, |routes| {
         for route in routes {
             route.retain(|&other| other != stop);
         }

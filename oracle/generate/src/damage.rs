@@ -18,7 +18,7 @@ pub fn damage(random: &mut Random, text: String) -> Vec<u8> {
 fn damage_once(random: &mut Random, text: &mut Vec<u8>) {
     let place = random.below(text.len());
 
-    match random.below(13) {
+    match random.below(14) {
         0 => text[place] = random.number() as u8,
         1 => text[place] = random.choose(b"0123456789 -+.,\t\n\r\0"),
         2 => text.insert(place, random.choose(b"0 \n1")),
@@ -50,6 +50,7 @@ fn damage_once(random: &mut Random, text: &mut Vec<u8>) {
                 text.splice(end..end + 1, line.iter().copied());
             }
         }
+        12 => change_count(random, text),
         _ => set_number(random, text),
     }
 }
@@ -87,6 +88,30 @@ fn remove_line(random: &mut Random, text: &mut Vec<u8>) {
     let (start, end) = line(random, text);
 
     text.drain(start..end);
+}
+
+/// One number more in some line, or one less.
+fn change_count(random: &mut Random, text: &mut Vec<u8>) {
+    // Lines before the job file are few and count as much as all others.
+    let (start, end) = if random.once_in(2) {
+        line(random, text)
+    } else {
+        match line_ends(text)[..] {
+            [one, other, ..] => (one + 1, other + 1),
+            _ => return,
+        }
+    };
+
+    if random.once_in(2) {
+        let number = random.choose(b"01");
+
+        text.splice(
+            start..start,
+            format!("{:>COLUMNS$}", number as char).into_bytes(),
+        );
+    } else if end - start > COLUMNS {
+        text.drain(start..start + COLUMNS);
+    }
 }
 
 /// Another number in some field, at a limit or beyond.

@@ -98,6 +98,31 @@ pub fn long_job(random: &mut Random, sizes: Sizes) -> Job {
     }
 }
 
+/// A job for an arrival or a cancellation. Many have as many stops as there can be, few have none.
+pub fn live_job(random: &mut Random) -> Job {
+    let mut job = some_live_job(random);
+
+    if job.stops.is_empty() && !random.once_in(10) {
+        job = some_live_job(random);
+    }
+
+    job
+}
+
+fn some_live_job(random: &mut Random) -> Job {
+    if random.once_in(8) {
+        let sizes = Sizes {
+            vehicles: random.within(0..=Sizes::LARGE.vehicles),
+            stops: Sizes::LARGE.stops,
+            locations: random.within(1..=Sizes::LARGE.locations),
+        };
+
+        sized_job(random, sizes)
+    } else {
+        any_job(random)
+    }
+}
+
 pub fn job(random: &mut Random, sizes: Sizes) -> Job {
     let sizes = if random.once_in(10) {
         sizes
@@ -108,6 +133,12 @@ pub fn job(random: &mut Random, sizes: Sizes) -> Job {
             locations: random.within(1..=sizes.locations),
         }
     };
+
+    sized_job(random, sizes)
+}
+
+/// A job of these numbers of stops and, where it has a place, locations.
+fn sized_job(random: &mut Random, sizes: Sizes) -> Job {
     // Most jobs have a vehicle, and none without locations has a place.
     let vehicle_count = match sizes.vehicles {
         0 if !random.once_in(8) => 1,

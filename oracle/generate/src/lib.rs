@@ -2,14 +2,17 @@
 
 mod damage;
 mod job;
+mod live;
 mod random;
 mod recorded;
+mod recorded_live;
 mod recorded_refusals;
 mod refused;
 mod sheet;
 
 pub use crate::{
     job::{long_job, small_job, sufficient, Sizes},
+    live::{day, Day, Event},
     random::Random,
     recorded::recorded_sheets,
     refused::refuse,
@@ -39,7 +42,7 @@ pub enum Kind {
 }
 
 impl Kind {
-    const NAMES: [(&'static str, Self); 13] = [
+    const NAMES: [(&'static str, Self); 15] = [
         ("weigh", Self::Call(Call::Weigh)),
         ("start_plan", Self::Call(Call::StartPlan)),
         ("two_opt", Self::Call(Call::TwoOpt)),
@@ -47,6 +50,8 @@ impl Kind {
         ("exhaustive", Self::Call(Call::Exhaustive)),
         ("pruned", Self::Call(Call::Pruned)),
         ("solve", Self::Call(Call::Solve)),
+        ("arrive", Self::Call(Call::Arrive)),
+        ("cancel", Self::Call(Call::Cancel)),
         ("calls", Self::Calls),
         ("refused", Self::Refused),
         ("damaged-calls", Self::DamagedCalls),

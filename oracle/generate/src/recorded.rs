@@ -3,16 +3,17 @@
 
 use crate::{
     job::{largest_job, sufficient, table, Sizes, Table, MAX_MISSED_PRICE},
+    recorded_live::recorded_live,
     recorded_refusals::recorded_refusals,
     Random,
 };
-use sheet::{encode, Call, Job, Routes, Sheet};
+use sheet::{all_stops, encode, given_live, placed_stops, Call, Job, Routes, Sheet, CALL_COUNT};
 use std::collections::BTreeMap;
 
 const SEED: u64 = 1;
 
 /// Sheets of a call that are not refused.
-const ACCEPTED: [(Call, usize); 7] = [
+const ACCEPTED: [(Call, usize); CALL_COUNT] = [
     (Call::Weigh, 30),
     (Call::StartPlan, 40),
     (Call::TwoOpt, 120),
@@ -20,6 +21,8 @@ const ACCEPTED: [(Call, usize); 7] = [
     (Call::Exhaustive, 40),
     (Call::Pruned, 40),
     (Call::Solve, 120),
+    (Call::Arrive, 60),
+    (Call::Cancel, 40),
 ];
 
 /// All recorded sheets that are in form, those with every list at its limit last.
@@ -34,6 +37,7 @@ pub fn recorded_sheets() -> Vec<Sheet> {
 
     accepted
         .chain(recorded_refusals())
+        .chain(recorded_live())
         .chain([first_average_sheet()])
         .chain(largest_sheets())
         .collect()
@@ -86,29 +90,46 @@ enum Pair {
 }
 
 fn accepted_sheet(turns: &mut Turns, call: Call) -> Sheet {
-    let pair = turns.take(
-        "pair",
-        &[
-            Pair::OneRoute,
-            Pair::OneRoute,
-            Pair::TwoRoutes,
-            Pair::TwoRoutes,
-            Pair::FirstUnplaced,
-            Pair::SecondUnplaced,
-            Pair::Unplaced,
-        ],
-    );
+    let pair = match call {
+        // Only a stop that is on no route can arrive.
+        Call::Arrive => turns.take("pair", &[Pair::FirstUnplaced, Pair::Unplaced]),
+        _ => turns.take(
+            "pair",
+            &[
+                Pair::OneRoute,
+                Pair::OneRoute,
+                Pair::TwoRoutes,
+                Pair::TwoRoutes,
+                Pair::FirstUnplaced,
+                Pair::SecondUnplaced,
+                Pair::Unplaced,
+            ],
+        ),
+    };
     let job = accepted_job(turns, call, pair);
     let (routes, stops) = routes(turns, &job, pair);
-    let given_count = match call {
-        Call::TwoOpt => 2,
-        Call::Rebuild => turns.take("picks", &[1, 2, 2]),
-        _ => 0,
+    let given = match call {
+        Call::TwoOpt => stops,
+        Call::Rebuild => stops[..turns.take("picks", &[1, 2, 2])].to_vec(),
+        Call::Arrive | Call::Cancel => {
+            let live = live_stops(turns, &routes, job.stops.len());
+            let stop = stops[0];
+
+            given_live(
+                stop,
+                if call == Call::Arrive {
+                    live & !(1 << stop)
+                } else {
+                    live | 1 << stop
+                },
+            )
+        }
+        _ => vec![],
     };
 
     Sheet {
         call,
-        given: stops[..given_count].to_vec(),
+        given,
         plan: if call.has_plan() {
             encode(&routes, job.stops.len())
         } else {
@@ -116,6 +137,17 @@ fn accepted_sheet(turns: &mut Turns, call: Call) -> Sheet {
         },
         job,
     }
+}
+
+/// All placed stops and none, some or all of the others.
+fn live_stops(turns: &mut Turns, routes: &Routes, stop_count: usize) -> u64 {
+    let others = match turns.take("live", &[0, 0, 1, 2]) {
+        0 => 0,
+        1 => turns.random.number(),
+        _ => u64::MAX,
+    };
+
+    placed_stops(routes) | (others & all_stops(stop_count))
 }
 
 fn accepted_job(turns: &mut Turns, call: Call, pair: Pair) -> Job {
@@ -179,7 +211,7 @@ fn size(turns: &mut Turns, call: Call, pair: Pair) -> (usize, usize, usize) {
         !call.has_given_stops() && turns.take("edge", &[true, false, false, false, false, false]);
     let random = &mut turns.random;
     let (vehicles, stops) = if is_edge {
-        (0..=2, 0..=1)
+        (0..=2, call.has_live_stops() as u64..=1)
     } else {
         let least = if sizes.stops > 6 { sizes.stops / 2 } else { 2 };
 
@@ -242,12 +274,14 @@ fn routes(turns: &mut Turns, job: &Job, pair: Pair) -> (Routes, Vec<u32>) {
 
     random.shuffle(&mut stops);
 
+    let given = stops.iter().take(2).copied().collect::<Vec<_>>();
+    let stops_given = given.iter().map(|&stop| stop as u32).collect();
+
     if used == 0 {
-        return (routes, vec![]);
+        return (routes, stops_given);
     }
 
     let first = random.below(routes.len());
-    let given = stops.iter().take(2).copied().collect::<Vec<_>>();
 
     for &stop in stops.iter().skip(2) {
         if random.below(10) >= unplaced {
@@ -267,7 +301,7 @@ fn routes(turns: &mut Turns, job: &Job, pair: Pair) -> (Routes, Vec<u32>) {
         }
     }
 
-    (routes, given.iter().map(|&stop| stop as u32).collect())
+    (routes, stops_given)
 }
 
 fn is_placed(pair: Pair, index: usize) -> bool {
@@ -353,7 +387,7 @@ mod tests {
 
         assert_eq!(
             numbers.into_iter().collect::<Vec<_>>(),
-            [4, 6, 7, 8, 9, 10, 11, 12, 13]
+            [4, 6, 7, 8, 9, 10, 11, 12, 13, 16, 17]
         );
     }
 }

@@ -1,11 +1,11 @@
 //! The recorded sheets with arguments to refuse.
 
-use sheet::{refusal, Call, Job, Sheet, UNUSED};
+use sheet::{given_live, refusal, Call, Job, Sheet, UNUSED};
 
 type Change = fn(&mut Sheet);
 
 /// Changes of the example by the number of their refusal. Numbers 1, 2, 3 and 5 speak of lists that no sheet holds.
-const CHANGES: [(u64, &[Change]); 9] = [
+const CHANGES: [(u64, &[Change]); 11] = [
     (
         4,
         &[
@@ -68,6 +68,14 @@ const CHANGES: [(u64, &[Change]); 9] = [
             |sheet| set_plan(sheet, [1, 1, 2, 3, UNUSED]),
             |sheet| set_plan(sheet, [1, 1, UNUSED, 0, UNUSED]),
             |sheet| set_plan(sheet, [1, 1, 2, 0, 1]),
+            |sheet| set_live(sheet, 0b001),
+            |sheet| set_live(sheet, 0b110),
+            |sheet| set_live(sheet, 0),
+            |sheet| set_live(sheet, 0b1101),
+            |sheet| set_live(sheet, 0b101 | 1 << 31),
+            |sheet| set_live(sheet, 0b101 | 1 << 32),
+            |sheet| set_live(sheet, 0b101 | 1 << 63),
+            |sheet| set_live(sheet, u64::MAX),
         ],
     ),
     (
@@ -80,6 +88,32 @@ const CHANGES: [(u64, &[Change]); 9] = [
             |sheet| set_picks(sheet, &[3]),
             |sheet| set_picks(sheet, &[0, 1, 2]),
             |sheet| set_picks(sheet, &[0, 1, 2, 0, 1, 2, 0, 1]),
+            |sheet| set_stop(sheet, 3),
+            |sheet| set_stop(sheet, 32),
+            |sheet| set_stop(sheet, 64),
+            |sheet| set_stop(sheet, 65),
+            |sheet| set_stop(sheet, 256),
+            |sheet| set_stop(sheet, u32::MAX),
+        ],
+    ),
+    (
+        16,
+        &[
+            |sheet| set_stop(sheet, 0),
+            |sheet| set_stop(sheet, 2),
+            |sheet| set_live(sheet, 0b111),
+        ],
+    ),
+    (
+        17,
+        &[
+            |sheet| set_stop(sheet, 1),
+            |sheet| {
+                if sheet.call.has_live_stops() {
+                    set_plan(sheet, [1, 0, 2, UNUSED, UNUSED]);
+                    set_live(sheet, 0b110);
+                }
+            },
         ],
     ),
     (
@@ -103,6 +137,12 @@ const LIMITS: [Change; 4] = [
     },
     |sheet| sheet.job.smoothing = 1_000,
     |sheet| sheet.job.limit = 1_000_000,
+];
+
+/// Live stops that lack one of the plan, and that name one which the job has not.
+const LIVE: [Change; 2] = [
+    |sheet| set_live(sheet, 0b001),
+    |sheet| set_live(sheet, 0b1101),
 ];
 
 /// For each call the example, each change of it (refused or, where the call does not ask for the argument, not), every
@@ -130,14 +170,27 @@ fn sheets(call: Call) -> Vec<Sheet> {
 fn pairs(call: Call) -> Vec<Sheet> {
     let refused = CHANGES
         .iter()
-        .filter(|(number, changes)| refusal(&changed(call, &changes[..1])) == Some(*number))
-        .map(|(_, changes)| changes[0])
+        .filter_map(|(number, changes)| {
+            changes
+                .iter()
+                .copied()
+                .find(|&change| refusal(&changed(call, &[change])) == Some(*number))
+        })
         .collect::<Vec<_>>();
-
-    (0..refused.len())
+    let pairs = (0..refused.len())
         .flat_map(|index| refused[..index].iter().map(move |&one| (one, index)))
-        .map(|(one, index)| changed(call, &[refused[index], one]))
-        .collect()
+        .map(|(one, index)| changed(call, &[refused[index], one]));
+    // Live stops are refused as the plan is, also with any other argument.
+    let live_pairs = LIVE
+        .into_iter()
+        .filter(|_| call.has_live_stops())
+        .flat_map(|live| {
+            refused
+                .iter()
+                .map(move |&other| changed(call, &[other, live]))
+        });
+
+    pairs.chain(live_pairs).collect()
 }
 
 fn changed(call: Call, changes: &[Change]) -> Sheet {
@@ -154,10 +207,11 @@ fn changed(call: Call, changes: &[Change]) -> Sheet {
 fn example(call: Call) -> Sheet {
     Sheet {
         call,
-        given: if call.has_given_stops() {
-            vec![2, 0]
-        } else {
-            vec![]
+        given: match call {
+            Call::TwoOpt | Call::Rebuild => vec![2, 0],
+            Call::Arrive => given_live(1, 0b101),
+            Call::Cancel => given_live(0, 0b101),
+            _ => vec![],
         },
         plan: if call.has_plan() {
             vec![1, 1, 2, 0, UNUSED]
@@ -198,6 +252,18 @@ fn set_plan(sheet: &mut Sheet, plan: [u32; 5]) {
 fn set_given(sheet: &mut Sheet, given: &[u32]) {
     if sheet.call.has_given_stops() {
         sheet.given = given.to_vec();
+    }
+}
+
+fn set_stop(sheet: &mut Sheet, stop: u32) {
+    if sheet.call.has_live_stops() {
+        sheet.given[0] = stop;
+    }
+}
+
+fn set_live(sheet: &mut Sheet, live: u64) {
+    if sheet.call.has_live_stops() {
+        sheet.given = given_live(sheet.stop(), live);
     }
 }
 

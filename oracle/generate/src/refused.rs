@@ -1,5 +1,5 @@
 use crate::{sheet::accepted_sheet, Random};
-use sheet::{refusal, Call, Sheet, UNUSED};
+use sheet::{contains, decode, encode, given_live, refusal, Call, Sheet, UNUSED};
 
 const MAX_TRIES: usize = 20;
 
@@ -54,6 +54,7 @@ pub fn refuse(random: &mut Random, sheet: &mut Sheet) {
         4 => sheet.job.linear = random.choose(&[1_000_001, u32::MAX]),
         5 => sheet.job.quadratic = random.choose(&[17, u32::MAX]),
         6 => sheet.job.missed = random.choose(&[10_000_000_000_001, 99_999_999_999_999]),
+        7 | 8 | 11..=13 if sheet.call.has_live_stops() => damage_live(random, sheet),
         7 => sheet.job.smoothing = random.choose(&[0, 1_001, u32::MAX]),
         8 => sheet.job.limit = random.choose(&[0, 1_000_001, u32::MAX]),
         9 | 10 => damage_plan(random, sheet),
@@ -148,6 +149,70 @@ fn damage_given(random: &mut Random, sheet: &mut Sheet) {
                 sheet.given = (0..count).map(|_| random.small(0..=stops - 1)).collect();
             }
         }
+    }
+}
+
+/// A stop or live stops that the call does not take.
+fn damage_live(random: &mut Random, sheet: &mut Sheet) {
+    let stop_count = sheet.job.stops.len() as u32;
+    let (stop, live) = (sheet.stop(), sheet.live());
+    let is_arrival = sheet.call == Call::Arrive;
+
+    match random.below(6) {
+        0 => {
+            sheet.given[0] =
+                random.choose(&[stop_count, stop_count + 1, 64, 64 + stop % 64, u32::MAX]);
+        }
+        1 => {
+            let mut placed = (0..u64::BITS)
+                .filter(|stop| sheet.plan.contains(stop) && contains(live, *stop))
+                .collect::<Vec<_>>();
+
+            if let Some(placed) = pick(random, &mut placed) {
+                set_live(sheet, live & !(1 << *placed));
+            }
+        }
+        2 => {
+            let mut above = (stop_count..u64::BITS).collect::<Vec<_>>();
+
+            if let Some(above) = pick(random, &mut above) {
+                let above = random.choose(&[stop_count, *above, 63]);
+
+                set_live(sheet, live | 1 << above);
+            }
+        }
+        3 => {
+            let mut others = (0..stop_count)
+                .filter(|&stop| contains(live, stop) == is_arrival)
+                .collect::<Vec<_>>();
+
+            if let Some(other) = pick(random, &mut others) {
+                sheet.given[0] = *other;
+            }
+        }
+        4 => {
+            unplace(sheet);
+            set_live(sheet, live ^ 1 << (stop % u64::BITS));
+        }
+        _ => set_live(sheet, random.number()),
+    }
+}
+
+fn set_live(sheet: &mut Sheet, live: u64) {
+    sheet.given = given_live(sheet.stop(), live);
+}
+
+/// Takes the stop of an arrival or a cancellation off its route.
+fn unplace(sheet: &mut Sheet) {
+    let stop = sheet.stop() as usize;
+    let stop_count = sheet.job.stops.len();
+
+    if let Some(mut routes) = decode(&sheet.plan, sheet.job.vehicles.len(), stop_count) {
+        for route in &mut routes {
+            route.retain(|&other| other != stop);
+        }
+
+        sheet.plan = encode(&routes, stop_count);
     }
 }
 

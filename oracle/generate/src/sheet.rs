@@ -1,5 +1,6 @@
 use crate::{
-    job::{any_job, job, run_job, small_job, Sizes},
+    job::{any_job, job, live_job, run_job, small_job, Sizes},
+    live::live_sheet,
     refused::refuse,
     Random,
 };
@@ -7,14 +8,16 @@ use sheet::{encode, Call, Job, Sheet};
 
 /// A sheet of any call, mostly of those with many cases.
 pub fn any_sheet(random: &mut Random) -> Sheet {
-    let call = match random.below(20) {
+    let call = match random.below(25) {
         0 => Call::Weigh,
         1 | 2 => Call::StartPlan,
         3..=10 => Call::TwoOpt,
         11..=15 => Call::Rebuild,
         16 => Call::Exhaustive,
         17 => Call::Pruned,
-        _ => Call::Solve,
+        18 | 19 => Call::Solve,
+        20..=22 => Call::Arrive,
+        _ => Call::Cancel,
     };
 
     some_sheet(random, call)
@@ -35,6 +38,7 @@ pub fn accepted_sheet(random: &mut Random, call: Call) -> Sheet {
     let mut job = match call {
         Call::Exhaustive | Call::Pruned => job(random, Sizes::SMALL),
         Call::Solve => run_job(random),
+        Call::Arrive | Call::Cancel => live_job(random),
         _ => any_job(random),
     };
 
@@ -55,6 +59,10 @@ pub fn small_sheet(random: &mut Random) -> Sheet {
 
 /// A sheet of a job, with a plan and given stops where the call has them.
 pub fn sheet(random: &mut Random, call: Call, job: Job) -> Sheet {
+    if call.has_live_stops() {
+        return live_sheet(random, call, job);
+    }
+
     let plan = if call.has_plan() {
         plan(random, job.vehicles.len(), job.stops.len())
     } else {

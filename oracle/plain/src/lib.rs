@@ -3,6 +3,7 @@
 
 mod arrange;
 mod day;
+mod live;
 mod plan;
 mod pruned;
 mod rebuild;
@@ -12,7 +13,7 @@ mod two_opt;
 
 use day::Day;
 use plan::Plan;
-use sheet::{Job, Planner, Routes, Run};
+use sheet::{Changed, Job, Planner, Routes, Run};
 
 pub struct Plain;
 
@@ -62,5 +63,13 @@ impl Planner for Plain {
         let (run, plan) = run::run(&day, job.smoothing, job.limit, &job.draws);
 
         (run, plan.to_routes(&day))
+    }
+
+    fn arrive(job: &Job, routes: &Routes, live: u64, stop: usize) -> Changed {
+        live::arrive(job, routes, live, stop)
+    }
+
+    fn cancel(job: &Job, routes: &Routes, live: u64, stop: usize) -> Changed {
+        live::cancel(job, routes, live, stop)
     }
 }

@@ -1,3 +1,5 @@
+use crate::{Routes, UNUSED};
+
 /// A job as its file has it. The numbers of vehicles and stops are those of the lists.
 #[derive(Clone, Debug, Default, Eq, PartialEq)]
 pub struct Job {
@@ -15,6 +17,8 @@ pub struct Job {
     pub draws: Vec<u32>,
 }
 
+pub const CALL_COUNT: usize = 9;
+
 #[derive(Clone, Copy, Debug, Eq, PartialEq)]
 pub enum Call {
     Weigh,
@@ -24,10 +28,12 @@ pub enum Call {
     Exhaustive,
     Pruned,
     Solve,
+    Arrive,
+    Cancel,
 }
 
 impl Call {
-    pub const ALL: [Self; 7] = [
+    pub const ALL: [Self; CALL_COUNT] = [
         Self::Weigh,
         Self::StartPlan,
         Self::TwoOpt,
@@ -35,6 +41,8 @@ impl Call {
         Self::Exhaustive,
         Self::Pruned,
         Self::Solve,
+        Self::Arrive,
+        Self::Cancel,
     ];
 
     pub fn from_number(number: u64) -> Option<Self> {
@@ -50,9 +58,14 @@ impl Call {
         matches!(self, Self::TwoOpt | Self::Rebuild)
     }
 
+    /// Whether a sheet of the call has a line with a stop and the live stops.
+    pub fn has_live_stops(self) -> bool {
+        matches!(self, Self::Arrive | Self::Cancel)
+    }
+
     /// Whether a sheet of the call has a line with a plan.
     pub fn has_plan(self) -> bool {
-        matches!(self, Self::Weigh | Self::TwoOpt | Self::Rebuild)
+        matches!(self, Self::Weigh | Self::TwoOpt | Self::Rebuild) || self.has_live_stops()
     }
 
     pub fn has_prices(self) -> bool {
@@ -60,13 +73,54 @@ impl Call {
     }
 }
 
-/// One call with its arguments. `given` and `plan` are empty where the call has none.
+/// One call with its arguments. `given` and `plan` are empty where the call has none. Of an arrival or a cancellation
+/// `given` is the stop and the live stops' low and high half.
 #[derive(Clone, Debug, Eq, PartialEq)]
 pub struct Sheet {
     pub call: Call,
     pub given: Vec<u32>,
     pub plan: Vec<u32>,
     pub job: Job,
+}
+
+impl Sheet {
+    /// The stop of an arrival or a cancellation.
+    pub fn stop(&self) -> u32 {
+        self.given[0]
+    }
+
+    /// The live stops of an arrival or a cancellation.
+    pub fn live(&self) -> u64 {
+        self.given[1] as u64 | (self.given[2] as u64) << 32
+    }
+}
+
+/// What a sheet of an arrival or a cancellation gives.
+pub fn given_live(stop: u32, live: u64) -> Vec<u32> {
+    vec![stop, live as u32, (live >> 32) as u32]
+}
+
+/// Whether a set has a stop, which may be any number.
+pub fn contains(set: u64, stop: u32) -> bool {
+    stop < u64::BITS && set >> stop & 1 == 1
+}
+
+/// The set of all stops.
+pub fn all_stops(stop_count: usize) -> u64 {
+    set_of(0..stop_count)
+}
+
+/// The set of the stops that are on routes.
+pub fn placed_stops(routes: &Routes) -> u64 {
+    set_of(routes.iter().flatten().copied())
+}
+
+/// A set has 64 stops at most; more are refused before it counts.
+fn set_of(stops: impl IntoIterator<Item = usize>) -> u64 {
+    stops
+        .into_iter()
+        .filter(|&stop| stop < u64::BITS as usize)
+        .fold(0, |set, stop| set | 1 << stop)
 }
 
 /// Job A, the specification's own.
@@ -84,19 +138,21 @@ pub fn job_a() -> Job {
     }
 }
 
-/// A call on Job A: the plan of both stops in order, and both stops given, where the call has them.
+/// A call on Job A: the plan of both stops in order, and both stops given, where the call has them. Stop 1 arrives where
+/// only stop 0 is live and placed.
 pub fn sheet_a(call: Call) -> Sheet {
     Sheet {
         call,
-        given: if call.has_given_stops() {
-            vec![0, 1]
-        } else {
-            vec![]
+        given: match call {
+            Call::TwoOpt | Call::Rebuild => vec![0, 1],
+            Call::Arrive => given_live(1, 1),
+            Call::Cancel => given_live(1, 3),
+            _ => vec![],
         },
-        plan: if call.has_plan() {
-            vec![2, 0, 1]
-        } else {
-            vec![]
+        plan: match call {
+            Call::Arrive => vec![1, 0, UNUSED],
+            _ if call.has_plan() => vec![2, 0, 1],
+            _ => vec![],
         },
         job: job_a(),
     }

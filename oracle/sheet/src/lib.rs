@@ -8,7 +8,9 @@ mod refuse;
 mod table;
 mod write;
 
-pub use job::{job_a, sheet_a, Call, Job, Sheet};
+pub use job::{
+    all_stops, contains, given_live, job_a, placed_stops, sheet_a, Call, Job, Sheet, CALL_COUNT,
+};
 pub use plan::{decode, encode, Routes, UNUSED};
 pub use print::{answer_sheets, answer_sheets_by, costs, run_line, shuttle};
 pub use read::{read_job, read_sheet, Malformed};
@@ -26,6 +28,14 @@ pub struct Run {
     pub settled: bool,
 }
 
+/// What an arrival or a cancellation answers: the new live stops and the cost, and the plan that it leaves.
+#[derive(Clone, Debug, Eq, PartialEq)]
+pub struct Changed {
+    pub live: u64,
+    pub cost: u64,
+    pub routes: Routes,
+}
+
 /// The calls, on arguments that are not refused.
 pub trait Planner {
     fn weigh(job: &Job, routes: &Routes) -> u64;
@@ -35,4 +45,6 @@ pub trait Planner {
     fn exhaustive(job: &Job) -> Routes;
     fn pruned(job: &Job) -> Routes;
     fn solve(job: &Job) -> (Run, Routes);
+    fn arrive(job: &Job, routes: &Routes, live: u64, stop: usize) -> Changed;
+    fn cancel(job: &Job, routes: &Routes, live: u64, stop: usize) -> Changed;
 }

@@ -1,6 +1,6 @@
 use crate::{
-    decode, encode, read_job, read_sheet, refusal, write::numbers, Call, Malformed, Planner,
-    Routes, Run, Sheet,
+    decode, encode, read_job, read_sheet, refusal, write::numbers, Call, Changed, Malformed,
+    Planner, Routes, Run, Sheet,
 };
 use std::io::{self, Write};
 
@@ -75,6 +75,8 @@ fn answer<P: Planner>(sheet: &Sheet) -> String {
     let routes = decode(&sheet.plan, job.vehicles.len(), job.stops.len()).unwrap_or_default();
     let plan_line = |routes: &Routes| numbers(&encode(routes, job.stops.len()));
     let weighed = |routes: Routes| costs([P::weigh(job, &routes)]) + &plan_line(&routes);
+    let changed =
+        |changed: Changed| costs([changed.live, changed.cost]) + &plan_line(&changed.routes);
 
     match sheet.call {
         Call::Weigh => costs([P::weigh(job, &routes)]),
@@ -88,6 +90,8 @@ fn answer<P: Planner>(sheet: &Sheet) -> String {
 
             run_line(run) + &plan_line(&routes)
         }
+        Call::Arrive => changed(P::arrive(job, &routes, sheet.live(), given[0])),
+        Call::Cancel => changed(P::cancel(job, &routes, sheet.live(), given[0])),
     }
 }
 

@@ -28,6 +28,7 @@ pub fn read_sheet(input: &[u8]) -> Result<(Sheet, &[u8]), Malformed> {
     let given = match call {
         Call::TwoOpt => reader.small_numbers::<2>()?.to_vec(),
         Call::Rebuild => reader.numbers_up_to(MAX_GIVEN_STOP_COUNT)?,
+        Call::Arrive | Call::Cancel => reader.small_numbers::<3>()?.to_vec(),
         _ => vec![],
     };
     let plan = if call.has_plan() {
@@ -176,7 +177,7 @@ fn limited(number: u64, min: u64, max: u64) -> Result<usize, Malformed> {
 #[cfg(test)]
 mod tests {
     use super::*;
-    use crate::{job_a, sheet_a, write_job, write_sheet};
+    use crate::{given_live, job_a, sheet_a, write_job, write_sheet};
 
     fn reads(text: &str) -> bool {
         matches!(read_job(text.as_bytes()), Ok((_, [])))
@@ -227,6 +228,41 @@ mod tests {
                 count <= 8,
             );
         }
+    }
+
+    #[test]
+    fn reads_a_stop_and_two_halves_of_the_live_stops() {
+        for call in [Call::Arrive, Call::Cancel] {
+            for count in 0..6 {
+                let sheet = Sheet {
+                    given: vec![u32::MAX; count],
+                    ..sheet_a(call)
+                };
+
+                assert_eq!(
+                    read_sheet(write_sheet(&sheet).as_bytes()).is_ok(),
+                    count == 3,
+                );
+            }
+
+            let text = write_sheet(&sheet_a(call));
+
+            assert!(read_sheet(text.as_bytes()).is_ok());
+            assert!(read_sheet(
+                text.replacen("             1", "    4294967296", 1)
+                    .as_bytes()
+            )
+            .is_err());
+        }
+
+        let sheet = Sheet {
+            given: vec![7, 5, 2],
+            ..sheet_a(Call::Arrive)
+        };
+
+        assert_eq!(sheet.stop(), 7);
+        assert_eq!(sheet.live(), 0x2_0000_0005);
+        assert_eq!(given_live(7, sheet.live()), sheet.given);
     }
 
     #[test]

@@ -1,4 +1,4 @@
-use crate::{decode, Call, Job, Sheet};
+use crate::{all_stops, contains, decode, placed_stops, Call, Job, Sheet};
 
 const MAX_DISTANCE: u32 = 200_000;
 const MAX_LINEAR_PRICE: u32 = 1_000_000;
@@ -41,13 +41,19 @@ pub fn refusal(sheet: &Sheet) -> Option<u64> {
             is_run && !(1..=MAX_SMOOTHING_COUNT).contains(&job.smoothing),
         ),
         (10, is_run && !(1..=MAX_ROUND_LIMIT).contains(&job.limit)),
-        (
-            11,
-            call.has_plan() && decode(plan, vehicle_count, stop_count).is_none(),
-        ),
+        (11, call.has_plan() && !is_plan(sheet)),
         (
             12,
-            call.has_given_stops() && !are_given_stops(*call, given, stop_count),
+            (call.has_given_stops() && !are_given_stops(*call, given, stop_count))
+                || (call.has_live_stops() && sheet.stop() as usize >= stop_count),
+        ),
+        (
+            16,
+            *call == Call::Arrive && contains(sheet.live(), sheet.stop()),
+        ),
+        (
+            17,
+            *call == Call::Cancel && !contains(sheet.live(), sheet.stop()),
         ),
         (
             13,
@@ -74,6 +80,19 @@ fn has_high_price(job: &Job) -> bool {
         || job.missed > MAX_MISSED_PRICE
 }
 
+/// Whether the plan is one and, for an arrival or a cancellation, the live stops are stops and have all that are placed.
+fn is_plan(sheet: &Sheet) -> bool {
+    let stop_count = sheet.job.stops.len();
+
+    match decode(&sheet.plan, sheet.job.vehicles.len(), stop_count) {
+        None => false,
+        Some(routes) if sheet.call.has_live_stops() => {
+            placed_stops(&routes) & !sheet.live() == 0 && sheet.live() & !all_stops(stop_count) == 0
+        }
+        Some(_) => true,
+    }
+}
+
 fn are_given_stops(call: Call, given: &[u32], stop_count: usize) -> bool {
     let counts = if call == Call::TwoOpt { 2..=2 } else { 1..=2 };
 
@@ -85,7 +104,7 @@ fn are_given_stops(call: Call, given: &[u32], stop_count: usize) -> bool {
 #[cfg(test)]
 mod tests {
     use super::*;
-    use crate::{job_a, sheet_a, UNUSED};
+    use crate::{given_live, job_a, sheet_a, UNUSED};
 
     /// A sheet with every number at its limit.
     fn sheet(call: Call) -> Sheet {
@@ -121,11 +140,12 @@ mod tests {
     fn refuses_by_call() {
         use Call::*;
 
-        let priced = [Weigh, TwoOpt, Rebuild, Exhaustive, Pruned, Solve];
+        let planned = [Weigh, TwoOpt, Rebuild, Arrive, Cancel];
+        let priced = [
+            Weigh, TwoOpt, Rebuild, Exhaustive, Pruned, Solve, Arrive, Cancel,
+        ];
 
-        check(&[Weigh, TwoOpt, Rebuild], 4, |sheet| {
-            sheet.plan.push(UNUSED)
-        });
+        check(&planned, 4, |sheet| sheet.plan.push(UNUSED));
         check(&Call::ALL, 6, |sheet| sheet.job.vehicles[0][0] = 3);
         check(&Call::ALL, 6, |sheet| sheet.job.vehicles[0][1] = 3);
         check(&Call::ALL, 6, |sheet| sheet.job.stops[1] = 3);
@@ -137,7 +157,7 @@ mod tests {
         check(&[Solve], 9, |sheet| sheet.job.smoothing = 0);
         check(&[Solve], 10, |sheet| sheet.job.limit += 1);
         check(&[Solve], 10, |sheet| sheet.job.limit = 0);
-        check(&[Weigh, TwoOpt, Rebuild], 11, |sheet| {
+        check(&planned, 11, |sheet| {
             if sheet.call.has_plan() {
                 sheet.plan[2] = 0
             }
@@ -156,7 +176,7 @@ mod tests {
             sheet.job.vehicles = vec![[0, 0]; 4];
 
             if sheet.call.has_plan() {
-                sheet.plan = vec![0, 0, 0, 2, 0, 1]
+                sheet.plan = [&[0; 3], &sheet.plan[..]].concat()
             }
         });
         check(&[Exhaustive, Pruned], 13, |sheet| {
@@ -166,7 +186,73 @@ mod tests {
                 sheet.plan.resize(8, UNUSED)
             }
         });
-        check(&[TwoOpt, Rebuild], 12, |sheet| sheet.given.push(0));
+        check(&[TwoOpt, Rebuild], 12, |sheet| {
+            if sheet.call.has_given_stops() {
+                sheet.given.push(0)
+            }
+        });
+    }
+
+    /// The refusals of an arrival and of a cancellation on Job A with a route, the live stops and a stop.
+    fn live(stops: &[u32], live: u64, stop: u32) -> [Option<u64>; 2] {
+        [Call::Arrive, Call::Cancel].map(|call| {
+            let mut plan = [&[stops.len() as u32], stops].concat();
+
+            plan.resize(3, UNUSED);
+
+            refusal(&Sheet {
+                given: given_live(stop, live),
+                plan,
+                ..sheet(call)
+            })
+        })
+    }
+
+    #[test]
+    fn refuses_by_live_stops() {
+        let (arrives, cancels) = ([None, Some(17)], [Some(16), None]);
+
+        assert_eq!(live(&[], 0, 0), arrives);
+        assert_eq!(live(&[], 1, 0), cancels);
+        assert_eq!(live(&[], 1, 1), arrives);
+        assert_eq!(live(&[0], 1, 0), cancels);
+        assert_eq!(live(&[1], 3, 0), cancels);
+        assert_eq!(live(&[1, 0], 3, 1), cancels);
+
+        for stop in [0, 1, 2, u32::MAX] {
+            assert_eq!(live(&[0], 0, stop), [Some(11); 2]);
+            assert_eq!(live(&[0], 2, stop), [Some(11); 2]);
+            assert_eq!(live(&[0], 5, stop), [Some(11); 2]);
+            assert_eq!(live(&[], 1 << 32, stop), [Some(11); 2]);
+            assert_eq!(live(&[], 1 << 63, stop), [Some(11); 2]);
+            assert_eq!(live(&[0, 0], 3, stop), [Some(11); 2]);
+        }
+
+        for stop in [2, 32, 33, 64, 65, 256, u32::MAX] {
+            assert_eq!(live(&[0], 1, stop), [Some(12); 2]);
+            assert_eq!(live(&[0], 3, stop), [Some(12); 2]);
+        }
+    }
+
+    #[test]
+    fn takes_the_last_of_all_stops() {
+        for (call, live) in [
+            (Call::Arrive, u64::MAX >> 1),
+            (Call::Arrive, 0),
+            (Call::Cancel, u64::MAX),
+            (Call::Cancel, 1 << 63),
+        ] {
+            let mut sheet = Sheet {
+                given: given_live(63, live),
+                plan: [vec![0], vec![UNUSED; 64]].concat(),
+                ..sheet(call)
+            };
+
+            sheet.job.stops = vec![0; 64];
+            assert_eq!(refusal(&sheet), None);
+            sheet.given[0] = 64;
+            assert_eq!(refusal(&sheet), Some(12));
+        }
     }
 
     fn rebuild(given: &[u32]) -> Option<u64> {

@@ -1,15 +1,20 @@
+use crate::CALL_COUNT;
+
 /// A table of counts by call: the heading of its first column, and a name and the counts for each row. No count is no text.
-pub fn call_table(heading: &str, rows: impl IntoIterator<Item = (String, [usize; 7])>) -> String {
+pub fn call_table(
+    heading: &str,
+    rows: impl IntoIterator<Item = (String, [usize; CALL_COUNT])>,
+) -> String {
     let header = format!(
-        "| {heading} | weigh | start | two-opt | rebuild | exhaustive | pruned | solve | sum |\n{}|\n",
-        "|---".repeat(9)
+        "| {heading} | weigh | start | two-opt | rebuild | exhaustive | pruned | solve | arrive | cancel | sum |\n{}|\n",
+        "|---".repeat(CALL_COUNT + 2)
     );
 
     rows.into_iter()
         .fold(header, |text, (name, counts)| text + &row(&name, &counts))
 }
 
-fn row(name: &str, counts: &[usize; 7]) -> String {
+fn row(name: &str, counts: &[usize; CALL_COUNT]) -> String {
     let cells = counts
         .iter()
         .map(|&count| match count {

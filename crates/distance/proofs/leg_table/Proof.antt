@@ -1,40 +1,41 @@
--- The invariant: the cells passed are filled.
-use borrow.Author.Needs.{needs}
-use Prim.Native.Nat.{ℕ, _-_, _/_, _%_, _≤_, _<_}
-use mathlib.Core.Path.{_≡_, _∙_}
+-- The invariant: the rows passed are filled.
+use Prim.Native.Nat.{_-_}
+use mathlib.Core.Path.{refl, sym, _∙_}
 use native.Mathlib.Omega.{arith}
-use lib.ListN.{length, getD, length-set}
 use denote.Ref.{now}
-use Rattle.model.specs.declared.Prices.{Prices}
-use Rattle.model.specs.Job.{jobOf}
-use Rattle.distance.specs.Table.{cell}
-use Rattle.distance.proofs.Table.{filled-more, legs-of}
+use Rattle.distance.proofs.Table.{Rows, rows-more, legs-of}
 use Rattle.distance.proofs.leg_table.Statement.{statement}
 use Rattle.distance.proofs.leg_table.Tie as tie
 
 abbrev Inv-loop : tie.InvT-loop
-Inv-loop vehicles stops locations distances legs₀ i₀ legs i =
-    (i ≤ 6400)
-    × (length legs ≡ 6400)
-    × ((p : Prices) (k : ℕ) → k < i → getD legs k 0 ≡ cell (jobOf vehicles stops locations distances p) (k / 80) (k % 80))
+Inv-loop vehicles stops locations distances legs₀ ends i₀ legs i = Rows vehicles stops locations distances i legs
 
 abbrev μ-loop : tie.MeasureT-loop
-μ-loop vehicles stops locations distances legs₀ i₀ legs i = 6400 - i
+μ-loop vehicles stops locations distances legs₀ ends i₀ legs i = 80 - i
 
-abbrev start : tie.At-loop Inv-loop μ-loop → tie.Start Inv-loop μ-loop
-start c = c .before .before .before .before .before
+abbrev start : tie.After-place-ends Inv-loop μ-loop → tie.Start Inv-loop μ-loop
+start c = c .before .before .before .before .before .before
+
+place-ends-requires : tie.Need-place-ends-requires Inv-loop μ-loop
+place-ends-requires c κs =
+    let I = c .before .before .before .before .before .pre .0 in
+    (I .vehicles, I .stops, refl)
 
 loop-holds : tie.Need-loop-holds Inv-loop μ-loop
-loop-holds c = (omega arith, omega arith, λ p k h. absurd (omega arith))
+loop-holds c = record { few = omega arith; long = start c .pre .1; cells = λ p k h. absurd (omega arith) }
 
-metres-requires : tie.Need-metres-requires Inv-loop μ-loop
-metres-requires c κs = start (c .before) .pre .0
+start-of-requires : tie.Need-start-of-requires Inv-loop μ-loop
+start-of-requires c κs =
+    let I = start (c .before .before) .pre .0 in
+    (I .vehicles, I .stops)
 
-mul-legs : tie.Need-mul-legs Inv-loop μ-loop
-mul-legs c = omega arith
+mul-fill-row : tie.Need-mul-fill-row Inv-loop μ-loop
+mul-fill-row c = omega arith
 
-slice-write-legs : tie.Need-slice-write-legs Inv-loop μ-loop
-slice-write-legs c = search needs
+fill-row-requires : tie.Need-fill-row-requires Inv-loop μ-loop
+fill-row-requires c κs =
+    let t = c .before .before .before .before in
+    (start (t .before) .pre .0 .table, t .loop .inv .long, omega arith)
 
 add-i : tie.Need-add-i Inv-loop μ-loop
 add-i c = omega arith
@@ -44,25 +45,27 @@ loop-less c = omega arith
 
 loop-again : tie.Need-loop-again Inv-loop μ-loop
 loop-again c =
-    let t = c .before .before in
-    let a = start t .args in (
-      omega arith,
-      length-set (t .loop .legs) (t .loop .i) (c .metres .result) ∙ t .loop .inv .1,
-      λ p.
-          filled-more (λ k. cell (jobOf (now (a .vehicles)) (now (a .stops)) (a .locations) (now (a .distances)) p) (k / 80) (k % 80)) (t .loop .legs) (t .loop .i)
-          (c .metres .result) (c .before .loop-test .taken) (t .loop .inv .2 p) (c .metres .ensures p),
-    )
+    let f = c .before .before in
+    let s = f .before .before .before in
+    let t = s .before .before in
+    let e = t .before in
+    let a = start e .args in
+    rows-more (now (a .vehicles)) (now (a .stops)) (a .locations) (now (a .distances)) (start e .pre .0) (t .loop .i) (s .start-of .result)
+    (e .place-ends .last .1 .1 .1 .0) (t .loop .legs) (f .fill-row .last .1 .1 .1 .1 .0) (t .loop .inv) (s .before .loop-test .taken)
+    (s .start-of .ensures (now (a .distances))) (e .place-ends .ensures (now (a .distances))) (f .fill-row .ensures)
 
 same-length : tie.Need-same-length Inv-loop μ-loop
-same-length c = omega arith
+same-length c = c .before .loop .inv .long ∙ sym (start (c .before .before) .pre .1)
 
 returns : tie.Need-returns Inv-loop μ-loop
 returns c =
     let t = c .before in
-    let a = start t .args in
-    legs-of (now (a .vehicles)) (now (a .stops)) (a .locations) (now (a .distances)) (start t .pre .0) (t .loop .legs) (t .loop .inv .1)
-    (λ p i h. t .loop .inv .2 p i (omega arith))
+    let s = start (t .before) in
+    let a = s .args in
+    legs-of (now (a .vehicles)) (now (a .stops)) (a .locations) (now (a .distances)) (s .pre .0) (t .loop .legs) (t .loop .inv .long)
+    (λ p i h. t .loop .inv .cells p i (omega arith))
 
 pub leg-table-spec : {M : Type 1} → statement M
 leg-table-spec =
-    tie.close (tie.spec Inv-loop μ-loop loop-holds metres-requires mul-legs slice-write-legs add-i loop-less loop-again same-length returns)
+    tie.close (tie.spec Inv-loop μ-loop place-ends-requires loop-holds start-of-requires mul-fill-row fill-row-requires add-i loop-less
+    loop-again same-length returns)

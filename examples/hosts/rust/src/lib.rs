@@ -86,6 +86,15 @@ pub struct Totals {
     pub settled: bool,
 }
 
+/// What an arrival or a cancellation answers besides its plan.
+#[derive(Clone, Copy, Debug, Default, PartialEq)]
+pub struct Standing {
+    /// The stops that are live now, as one number: stop 0 is its lowest bit.
+    pub live: u64,
+    /// The cost of the plan that is left. Of the stops on no route it counts the live ones.
+    pub cost: f64,
+}
+
 /// The cost of a plan.
 #[rustfmt::skip]
 pub fn weigh(job: &Job, plan: &[u32]) -> Result<f64, Refusal> {
@@ -190,4 +199,35 @@ pub fn solve(job: &Job, running: &Running, plan: &mut [u32]) -> Result<Totals, R
     };
 
     answer(number, Totals { settled: settled != 0, ..totals })
+}
+
+/// Adds a stop while those of the set `live` are. It is put where the plan then costs least, on the lower vehicle and then at the
+/// earlier place on ties, or stays on no route where that is strictly cheaper or there is no vehicle.
+#[rustfmt::skip]
+pub fn arrive(job: &Job, plan: &mut [u32], live: u64, stop: u32) -> Result<Standing, Refusal> {
+    let mut standing = Standing::default();
+    let number = unsafe {
+        raw::planner_arrive(
+            job.vehicles.as_ptr(), job.vehicles.len(), job.stops.as_ptr(), job.stops.len(), job.locations,
+            job.distances.as_ptr(), job.distances.len(), job.linear, job.quadratic, job.missed,
+            plan.as_mut_ptr(), plan.len(), live, stop, &mut standing.live, &mut standing.cost,
+        )
+    };
+
+    answer(number, standing)
+}
+
+/// Cancels a stop of the set `live`. It leaves its route, where it is on one, and is no longer counted as missed.
+#[rustfmt::skip]
+pub fn cancel(job: &Job, plan: &mut [u32], live: u64, stop: u32) -> Result<Standing, Refusal> {
+    let mut standing = Standing::default();
+    let number = unsafe {
+        raw::planner_cancel(
+            job.vehicles.as_ptr(), job.vehicles.len(), job.stops.as_ptr(), job.stops.len(), job.locations,
+            job.distances.as_ptr(), job.distances.len(), job.linear, job.quadratic, job.missed,
+            plan.as_mut_ptr(), plan.len(), live, stop, &mut standing.live, &mut standing.cost,
+        )
+    };
+
+    answer(number, standing)
 }

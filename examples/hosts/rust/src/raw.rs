@@ -41,4 +41,14 @@ extern "C" {
         smoothing: u32, limit: u32, draws: *const u32, draws_len: usize, plan: *mut u32, plan_len: usize,
         start: *mut f64, end: *mut f64, rounds: *mut u32, improving: *mut u32, settled: *mut u32,
     ) -> u32;
+    pub fn planner_arrive(
+        vehicles: *const u32, vehicles_len: usize, stops: *const u32, stops_len: usize, locations: u32,
+        distances: *const u32, distances_len: usize, linear: u32, quadratic: u32, missed: u64,
+        plan: *mut u32, plan_len: usize, live: u64, stop: u32, after: *mut u64, cost: *mut f64,
+    ) -> u32;
+    pub fn planner_cancel(
+        vehicles: *const u32, vehicles_len: usize, stops: *const u32, stops_len: usize, locations: u32,
+        distances: *const u32, distances_len: usize, linear: u32, quadratic: u32, missed: u64,
+        plan: *mut u32, plan_len: usize, live: u64, stop: u32, after: *mut u64, cost: *mut f64,
+    ) -> u32;
 }

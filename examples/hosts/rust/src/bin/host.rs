@@ -1,6 +1,6 @@
 //! A host in Rust: Job A, planned by each call, with the same lines as the hosts in C and Python.
 
-use planner::{Job, Refusal, Running};
+use planner::{Job, Refusal, Running, Standing};
 
 const JOB: Job = Job {
     vehicles: &[0, 0],
@@ -46,6 +46,18 @@ fn show_run(limit: u32, plan: &mut [u32]) {
     show("solve", answer, plan);
 }
 
+/// Answers the live set, which is that from before where the call is refused.
+fn show_change(name: &str, before: u64, answer: Result<Standing, Refusal>, plan: &[u32]) -> u64 {
+    let live = answer.map_or(before, |standing| standing.live);
+
+    show(
+        name,
+        answer.map(|standing| format!(" live {live} cost {}", standing.cost)),
+        plan,
+    );
+    live
+}
+
 fn main() {
     let plan = &mut [5, 5, 5];
 
@@ -61,4 +73,10 @@ fn main() {
     show_cost("rebuild", planner::rebuild(&JOB, plan, &[0, 1]), plan);
     show_cost("exhaustive", planner::exhaustive(&JOB, plan), plan);
     show_cost("pruned", planner::pruned(&JOB, plan), plan);
+
+    let live = 3; // both stops
+    let live = show_change("cancel", live, planner::cancel(&JOB, plan, live, 1), plan);
+    let live = show_change("cancel", live, planner::cancel(&JOB, plan, live, 1), plan); // no longer live: refused
+    let live = show_change("arrive", live, planner::arrive(&JOB, plan, live, 1), plan);
+    show_change("arrive", live, planner::arrive(&JOB, plan, live, 1), plan); // live already: refused
 }

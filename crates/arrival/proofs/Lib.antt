@@ -1,0 +1,4 @@
+pub mod Ways
+pub mod Weighing
+pub mod Choice
+pub mod Arrivals
