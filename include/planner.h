@@ -3,7 +3,7 @@
  *
  * What every call promises (proved in crates/planner_ffi, as equations over the definitions of crates/model/specs):
  * - It returns 0 where it accepts its arguments, and otherwise the number of the first test that applies to them. The tests are
- *   made in the order 1 to 12, 16, 17, 13; a call makes those that speak of what it is given.
+ *   made in the order 1 to 12, 15, 16, 17, 13; a call makes those that speak of what it is given.
  * - A call that is refused leaves every buffer and every result as it was.
  * - A call that is accepted leaves in the plan and in its results what the definitions say, and nothing elsewhere.
  * - It ends, on every input.
@@ -11,7 +11,7 @@
  *
  * What the host owes, since nothing can test it from inside: a pointer is not null (also where its length is 0) and is
  * aligned for its type; a list's length is how many numbers lie behind its pointer; what is written (a plan that is not
- * const, each result) overlaps nothing else that is passed; and nobody writes any of it until the call returns. A
+ * const, `seen`, each result) overlaps nothing else that is passed; and nobody writes any of it until the call returns. A
  * result may hold any number before. The library keeps no state, so calls may run side by side.
  *
  * A job is passed as
@@ -23,17 +23,20 @@
  * and a plan as v + n numbers: the v route lengths, then the stops of route 0, route 1 and so on, then PLANNER_UNUSED in each
  * unused place.
  *
- * A set of stops is one number, stop 0 its lowest bit. A cost is a whole number, exact in a double.
+ * A set of stops is one number, stop 0 its lowest bit, and so is a set of vans: a van is a vehicle that a caller may hold. A cost is a
+ * whole number, exact in a double; a change in cost is a whole number with a sign.
  *
  * Refusals (refusals.txt, beside this file, has a sentence for each):
  *    1  vehicles_len odd or over 32             8  a price over its limit: 1000000, 16, 10000000000000
  *    2  stops_len over 64                       9  smoothing outside 1 to 1000
  *    3  locations over 80, or                  10  limit outside 1 to 1000000
  *       distances_len not its square           11  a given plan not in plan form, or a stop twice; or
- *    4  plan_len not v + n                         a live set that lacks a stop of the plan or has one not below n
+ *    4  plan_len or seen_len not v + n             a live set that lacks a stop of the plan or has one not below n
  *    5  draws_len outside 1 to 1024            12  given stops not below n, equal, or (rebuild) not one or two
  *    6  a location number not below l          13  exhaustive or pruned with over 6 stops or 3 vehicles
- *    7  a distance over 200000                 16  arrival of a stop that is live
+ *    7  a distance over 200000                 15  the set names a van not below v, the stop is on a van outside the set, the
+ *                                                  target van is, or the place is beyond the route's end
+ *                                              16  arrival of a stop that is live
  *                                              17  cancellation of a stop that is not live
  */
 #ifndef PLANNER_H
@@ -149,6 +152,30 @@ uint32_t planner_cancel(
     uint32_t *plan, size_t plan_len,
     uint64_t live, uint32_t stop,
     uint64_t *after, double *cost);
+
+/* Shows a plan to a caller who holds the vans of the set `vans`, van 0 its lowest bit. Writes to `seen` the plan with the routes of other
+ * vans emptied, v + n numbers as a plan has them, and the set of the stops that are on no route, whatever is live. What `seen` held is
+ * not read. */
+uint32_t planner_view(
+    const uint32_t *vehicles, size_t vehicles_len,
+    const uint32_t *stops, size_t stops_len,
+    const uint32_t *plan, size_t plan_len,
+    uint32_t vans,
+    uint32_t *seen, size_t seen_len,
+    uint64_t *unplaced);
+
+/* Moves a stop for a caller who holds the vans of the set `vans`: from the route of one of these, or from no route, to the place
+ * `place` of the route of van `van`. Places are counted from 0 after the stop has been taken out, and the route's end is one. Writes the
+ * plan, and the change in the cost of the caller's vans and of the missed stops, which is below 0 where the plan has become cheaper. */
+uint32_t planner_move_stop(
+    const uint32_t *vehicles, size_t vehicles_len,
+    const uint32_t *stops, size_t stops_len,
+    uint32_t locations,
+    const uint32_t *distances, size_t distances_len,
+    uint32_t linear, uint32_t quadratic, uint64_t missed,
+    uint32_t *plan, size_t plan_len,
+    uint32_t vans, uint32_t stop, uint32_t van, uint32_t place,
+    int64_t *change);
 
 #ifdef __cplusplus
 }

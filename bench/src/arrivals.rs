@@ -1,17 +1,13 @@
 //! The last stop of a job is cancelled and arrives again, through the static library, beside other calls on the same plan.
 
 use crate::{
-    clock::least_time,
+    clock::call_time,
     job,
     proved::{unused, Lists},
 };
 use plain::Plain;
 use planner::Standing;
 use sheet::{all_stops, decode, encode, Changed, Job, Planner, Routes};
-use std::hint::black_box;
-
-/// How many calls are timed together, so that reading the clock does not count.
-const CALLS: u32 = 100;
 
 /// Microseconds of the calls, means of so many jobs of each of the sizes.
 pub fn table(sizes: &[[u64; 3]], job_count: u64) -> String {
@@ -68,19 +64,6 @@ fn times(job: &Job) -> [f64; 5] {
         call_time(&after, |plan| arrival.two_opt(plan, other)),
         call_time(&[], |_| Plain::arrive(job, &routes, arrival.others, stop)),
     ]
-}
-
-/// Microseconds of a call on a copy of a plan.
-fn call_time<T>(plan: &[u32], call: impl Fn(&mut [u32]) -> T) -> f64 {
-    let mut copy = plan.to_vec();
-    let seconds = least_time(|| {
-        for _ in 0..CALLS {
-            copy.copy_from_slice(plan);
-            black_box(call(black_box(&mut copy)));
-        }
-    });
-
-    seconds * 1e6 / CALLS as f64
 }
 
 /// The calls on one job, its last stop and the others.

@@ -1,8 +1,8 @@
 //! The answers of call sheets by the static library, its refusals among them.
 
 use crate::proved;
-use planner::{Refusal, Standing};
-use sheet::{costs, numbers, run_line, Call, Sheet};
+use planner::{Move, Refusal, Standing};
+use sheet::{change_line, costs, numbers, run_line, Call, Sheet};
 
 pub fn answer(sheet: &Sheet) -> String {
     let mut plan = if sheet.call.has_plan() {
@@ -13,7 +13,7 @@ pub fn answer(sheet: &Sheet) -> String {
     let before = plan.clone();
     let answer = call(sheet, &mut plan);
     let plan_line = match sheet.call {
-        Call::Weigh => String::new(),
+        Call::Weigh | Call::View => String::new(),
         _ => numbers(&plan),
     };
 
@@ -26,11 +26,12 @@ pub fn answer(sheet: &Sheet) -> String {
     }
 }
 
-/// Makes the call, and answers the line of its cost, its live stops and cost, or its run.
+/// Makes the call, and answers the line of its cost, its live stops and cost, its run, or its change, or the lines of its view.
 fn call(sheet: &Sheet, plan: &mut [u32]) -> Result<String, Refusal> {
     let job = &sheet.job;
     let line = |cost: f64| costs([cost as u64]);
     let standing = |standing: Standing| costs([standing.live, standing.cost as u64]);
+    let view = |(unplaced, seen): (u64, Vec<u32>)| costs([unplaced]) + &numbers(&seen);
 
     match sheet.call {
         Call::Weigh => proved::weigh(job, plan).map(line),
@@ -42,6 +43,16 @@ fn call(sheet: &Sheet, plan: &mut [u32]) -> Result<String, Refusal> {
         Call::Solve => proved::solve(job, plan).map(run_line),
         Call::Arrive => proved::arrive(job, plan, sheet.live(), sheet.stop()).map(standing),
         Call::Cancel => proved::cancel(job, plan, sheet.live(), sheet.stop()).map(standing),
+        Call::View => proved::view(job, plan, sheet.vans()).map(view),
+        Call::MoveStop => {
+            let to = Move {
+                stop: sheet.stop(),
+                van: sheet.van(),
+                place: sheet.place(),
+            };
+
+            proved::move_stop(job, plan, sheet.vans(), to).map(change_line)
+        }
     }
 }
 
@@ -70,18 +81,22 @@ mod tests {
 
     #[test]
     fn refuses_lists_that_no_sheet_holds() {
+        let tabled = Call::ALL.into_iter().filter(|call| call.has_table());
+        let tabled = tabled.collect::<Vec<_>>();
+
         check(&[], 0, |_| ());
         check(&Call::ALL, 1, |sheet| sheet.job.vehicles = vec![[0, 0]; 17]);
         check(&Call::ALL, 2, |sheet| sheet.job.stops = vec![0; 65]);
-        check(&Call::ALL, 3, |sheet| {
+        check(&tabled, 3, |sheet| {
             sheet.job.distances = vec![vec![0; 81]; 81]
         });
-        check(&Call::ALL, 3, |sheet| {
+        check(&tabled, 3, |sheet| {
             sheet.job.distances[1].pop();
         });
         check(&[Call::Solve], 5, |sheet| sheet.job.draws.clear());
         check(&[Call::Solve], 5, |sheet| sheet.job.draws = vec![0; 1_025]);
     }
+
     /// The answer of an arrival or a cancellation of stop 1 of Job A, with other live stops.
     fn live_answer(call: Call, live: u64) -> String {
         answer(&Sheet {
@@ -100,5 +115,27 @@ mod tests {
         assert_eq!(live_answer(Call::Arrive, 1 | 1 << 32), costs([11]));
         assert_eq!(live_answer(Call::Cancel, 3 | 1 << 63), costs([11]));
         assert_eq!(live_answer(Call::Cancel, 1), costs([11]));
+    }
+
+    /// The answer of a view of the plan of Job A by a caller with these vans, or of a move of stop 1 to a place of van 0.
+    fn van_answer(call: Call, given: &[u32]) -> String {
+        answer(&Sheet {
+            given: given.to_vec(),
+            ..sheet_a(call)
+        })
+    }
+
+    #[test]
+    fn answers_what_is_seen_and_what_a_move_changes() {
+        let view = |vans| van_answer(Call::View, &[vans]);
+        let moved = |vans, place| van_answer(Call::MoveStop, &[vans, 1, 0, place]);
+
+        assert_eq!(view(0), costs([0]) + &numbers(&[0, UNUSED, UNUSED]));
+        assert_eq!(view(1), costs([0]) + &numbers(&[2, 0, 1]));
+        assert_eq!(view(2), costs([15]));
+        assert_eq!(moved(1, 0), change_line(-14) + &numbers(&[2, 1, 0]));
+        assert_eq!(moved(1, 1), change_line(0) + &numbers(&[2, 0, 1]));
+        assert_eq!(moved(1, 2), costs([15]));
+        assert_eq!(moved(0, 0), costs([15]));
     }
 }

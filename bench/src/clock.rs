@@ -1,4 +1,4 @@
-use std::time::Duration;
+use std::{hint::black_box, time::Duration};
 
 /// How often something is timed at least, and for how long. The least time counts.
 const MIN_TIMES: usize = 3;
@@ -17,6 +17,22 @@ pub fn least_time(mut run: impl FnMut()) -> f64 {
     }
 
     times.into_iter().min().unwrap_or_default().as_secs_f64()
+}
+
+/// How many calls are timed together, so that reading the clock does not count.
+const CALLS: u32 = 100;
+
+/// Microseconds of a call on a copy of a plan.
+pub fn call_time<T>(plan: &[u32], mut call: impl FnMut(&mut [u32]) -> T) -> f64 {
+    let mut copy = plan.to_vec();
+    let seconds = least_time(|| {
+        for _ in 0..CALLS {
+            copy.copy_from_slice(plan);
+            black_box(call(black_box(&mut copy)));
+        }
+    });
+
+    seconds * 1e6 / CALLS as f64
 }
 
 /// The processor's time that this thread has had, which other programs do not add to.

@@ -10,7 +10,7 @@ mod random;
 
 use self::{arguments::Arguments, lent::Lent, outcome::Outcome, progress::Progress};
 use generate::Random;
-use sheet::{call_table, contains, Call, CALL_COUNT};
+use sheet::{call_table, contains, holds, Call, CALL_COUNT};
 
 /// Makes so many calls, from the call of a number on, and answers tables of them, or the first that differs.
 pub fn fire(count: u64, seed: u64, first: u64) -> Result<String, String> {
@@ -53,7 +53,7 @@ fn difference(random: &mut Random, arguments: &Arguments, outcome: &Outcome) -> 
 /// Whether arguments are at an edge.
 type Edge = (&'static str, fn(&Arguments) -> bool);
 
-const EDGES: [Edge; 36] = [
+const EDGES: [Edge; 49] = [
     ("no vehicles", |call| call.vehicles.is_empty()),
     ("16 vehicles", |call| call.vehicles.len() == 32),
     ("16 and a half", |call| call.vehicles.len() == 33),
@@ -61,11 +61,15 @@ const EDGES: [Edge; 36] = [
     ("no stops", |call| call.stops.is_empty()),
     ("64 stops", |call| call.stops.len() == 64),
     ("65 stops", |call| call.stops.len() == 65),
-    ("no locations", |call| call.locations == 0),
-    ("80 locations", |call| call.locations == 80),
-    ("81 locations", |call| call.locations == 81),
-    ("65,536 locations", |call| call.locations == 65_536),
-    ("an empty table", |call| call.distances.is_empty()),
+    ("no locations", |call| tabled(call, call.locations == 0)),
+    ("80 locations", |call| tabled(call, call.locations == 80)),
+    ("81 locations", |call| tabled(call, call.locations == 81)),
+    ("65,536 locations", |call| {
+        tabled(call, call.locations == 65_536)
+    }),
+    ("an empty table", |call| {
+        tabled(call, call.distances.is_empty())
+    }),
     ("an empty plan", |call| call.plan.is_empty()),
     ("longest distance 200,000", |call| longest(call, 200_000)),
     ("longest distance 200,001", |call| longest(call, 200_001)),
@@ -110,10 +114,58 @@ const EDGES: [Edge; 36] = [
     ("a live stop given that is on no route", |call| {
         live(call, contains(call.live & !call.placed(), call.stop))
     }),
+    ("no vans", |call| van(call, call.vans == 0)),
+    ("all vans", |call| {
+        van(call, call.vans == call.all_vans() && call.vans != 0)
+    }),
+    ("all 32 bits of vans", |call| {
+        van(call, call.vans == u32::MAX)
+    }),
+    ("a van not below v", |call| {
+        van(call, call.vans & !call.all_vans() != 0)
+    }),
+    ("a view's list of another length", |call| {
+        call.call == Call::View && call.seen.len() != call.plan.len()
+    }),
+    ("a stop moved from no route", |call| {
+        moved(call, call.routes().is_some() && call.source().is_none())
+    }),
+    ("a stop moved within its route", |call| {
+        moved(call, call.source() == Some(call.van as usize))
+    }),
+    ("a stop moved to another route", |call| {
+        moved(
+            call,
+            call.source().is_some_and(|van| van != call.van as usize),
+        )
+    }),
+    ("a stop moved from another's van", |call| {
+        moved(
+            call,
+            call.source().is_some_and(|van| !holds(call.vans, van)),
+        )
+    }),
+    ("a stop moved to another's van", |call| {
+        moved(call, !holds(call.vans, call.van as usize))
+    }),
+    ("van 32 or above", |call| moved(call, call.van >= 32)),
+    ("a place at the route's end", |call| {
+        moved(call, call.end() == Some(call.place as usize))
+    }),
+    ("a place one beyond the end", |call| {
+        moved(
+            call,
+            call.end().is_some_and(|end| end + 1 == call.place as usize),
+        )
+    }),
 ];
 
+fn tabled(call: &Arguments, condition: bool) -> bool {
+    call.call.has_table() && condition
+}
+
 fn longest(call: &Arguments, distance: u32) -> bool {
-    call.distances.iter().max() == Some(&distance)
+    tabled(call, call.distances.iter().max() == Some(&distance))
 }
 
 fn priced(call: &Arguments, condition: bool) -> bool {
@@ -126,6 +178,14 @@ fn run(call: &Arguments, condition: bool) -> bool {
 
 fn live(call: &Arguments, condition: bool) -> bool {
     call.call.has_live_stops() && condition
+}
+
+fn van(call: &Arguments, condition: bool) -> bool {
+    call.call.has_vans() && condition
+}
+
+fn moved(call: &Arguments, condition: bool) -> bool {
+    call.call == Call::MoveStop && condition
 }
 
 fn equal_given(call: &Arguments) -> bool {

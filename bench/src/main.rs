@@ -8,6 +8,7 @@ mod fire;
 mod proved;
 mod stack;
 mod times;
+mod vans;
 
 use sheet::{answer_sheets_by, encode, Job, Planner, Routes, Run};
 use std::{

@@ -1,6 +1,6 @@
 //! The proved planner, called through the static library with the jobs of sheets.
 
-use planner::{Refusal, Running, Standing, Totals};
+use planner::{Move, Refusal, Running, Standing, Totals};
 use sheet::{Job, Run, UNUSED};
 
 /// A job's lists as the calls take them.
@@ -72,6 +72,18 @@ pub fn arrive(job: &Job, plan: &mut [u32], live: u64, stop: u32) -> Result<Stand
 
 pub fn cancel(job: &Job, plan: &mut [u32], live: u64, stop: u32) -> Result<Standing, Refusal> {
     planner::cancel(&Lists::new(job).job(), plan, live, stop)
+}
+
+/// The stops on no route, and what is seen of the plan.
+pub fn view(job: &Job, plan: &[u32], vans: u32) -> Result<(u64, Vec<u32>), Refusal> {
+    let mut seen = unused(job);
+    let unplaced = planner::view(&Lists::new(job).job(), plan, vans, &mut seen)?;
+
+    Ok((unplaced, seen))
+}
+
+pub fn move_stop(job: &Job, plan: &mut [u32], vans: u32, to: Move) -> Result<i64, Refusal> {
+    planner::move_stop(&Lists::new(job).job(), plan, vans, to)
 }
 
 fn run(totals: Totals) -> Run {

@@ -1,6 +1,7 @@
 //! The least stack on which a call of the proved planner ends, at its largest size.
 
 use crate::{job, proved};
+use planner::Move;
 use sheet::{all_stops, encode, Job};
 use std::{
     env,
@@ -8,7 +9,7 @@ use std::{
     thread,
 };
 
-const CALLS: [&str; 9] = [
+const CALLS: [&str; 11] = [
     "weigh",
     "start_plan",
     "two_opt",
@@ -18,6 +19,8 @@ const CALLS: [&str; 9] = [
     "solve",
     "arrive",
     "cancel",
+    "view",
+    "move_stop",
 ];
 const LARGEST: [u64; 3] = [16, 64, 80];
 const EXHAUSTIVE: [u64; 3] = [3, 6, 80];
@@ -99,6 +102,16 @@ fn make(call: &str, job: &Job) {
         }),
         "cancel" => [(0, live), (63, live & !1)]
             .map(|(stop, live)| proved::cancel(job, &mut full, live, stop).map(drop)),
+        "view" => [0, 3].map(|vans| proved::view(job, &full, vans).map(drop)),
+        "move_stop" => [0, 1].map(|van| {
+            let to = Move {
+                stop: 63,
+                van,
+                place: 0,
+            };
+
+            proved::move_stop(job, &mut full, 3, to).map(drop)
+        }),
         _ => [Ok(()); 2],
     };
 

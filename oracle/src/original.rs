@@ -2,7 +2,7 @@
 
 use core::{BasicSolver, Location};
 use rand::rngs::Draws;
-use sheet::{Changed, Job, Planner, Routes, Run};
+use sheet::{Changed, Job, Moved, Planner, Routes, Run, Seen};
 use simple::{
     cost::{CostCalculator, DeliveryCostCalculator, DistanceCostCalculator},
     route::TableRouter,
@@ -87,6 +87,53 @@ impl Planner for Original {
             .map(|route| route.iter().copied().filter(|&other| other != stop));
 
         cheapest(job, live & !(1 << stop), [Solution::from_routes(others)])
+    }
+
+    // Nor has it any of vans that a caller holds. A view needs no solver: this one goes from stop to stop.
+    fn view(job: &Job, plan: &Routes, vans: u32) -> Seen {
+        let mut seen = Seen {
+            unplaced: 0,
+            routes: vec![vec![]; plan.len()],
+        };
+
+        for stop in 0..job.stops.len() {
+            if !plan.iter().any(|route| route.contains(&stop)) {
+                seen.unplaced += 1 << stop;
+            }
+        }
+
+        for (van, route) in plan.iter().enumerate() {
+            let is_own = vans / (1 << van) % 2 == 1;
+
+            seen.routes[van].extend(route.iter().filter(|_| is_own));
+        }
+
+        seen
+    }
+
+    // No other van's route changes, so that the change is that of the solver's cost of the whole plan.
+    fn move_stop(
+        job: &Job,
+        plan: &Routes,
+        _vans: u32,
+        stop: usize,
+        van: usize,
+        place: usize,
+    ) -> Moved {
+        let problem = problem(job);
+        let router = router(job);
+        let mut calculator = calculator(job, &problem, &router);
+        let others = plan
+            .iter()
+            .map(|route| route.iter().copied().filter(|&other| other != stop));
+        let new = Solution::from_routes(others).insert_stop(van, place, stop);
+        let [new_cost, old_cost] =
+            [&new, &solution(plan)].map(|plan| whole(calculator.calculate(plan)) as i64);
+
+        Moved {
+            change: new_cost - old_cost,
+            routes: routes(&new),
+        }
     }
 }
 

@@ -2,7 +2,7 @@
 //! kind.
 
 use sheet::{
-    all_stops, answer_sheets, call_table, decode, placed_stops, refusal, write_sheet, Call,
+    all_stops, answer_sheets, call_table, decode, holds, placed_stops, refusal, write_sheet, Call,
     Planner, Routes, Sheet, CALL_COUNT,
 };
 use std::{collections::BTreeMap, fs, io, path::Path};
@@ -27,7 +27,7 @@ pub fn record<P: Planner>(directory: &Path) -> io::Result<String> {
 type Kind = (&'static str, String);
 
 /// The rows' first words in the order of the table.
-const HEADINGS: [&str; 14] = [
+const HEADINGS: [&str; 18] = [
     "all",
     "refused",
     "size",
@@ -42,6 +42,10 @@ const HEADINGS: [&str; 14] = [
     "arrival",
     "tie",
     "cancellation",
+    "vans",
+    "move",
+    "stop",
+    "change",
 ];
 
 /// How many sheets there are by call: of all, of those that are refused, and of the others by their kinds.
@@ -82,11 +86,11 @@ fn kinds<P: Planner>(sheet: &Sheet) -> Vec<Kind> {
     }
 
     let job = &sheet.job;
-    let mut kinds = vec![
-        all,
-        ("size", size(sheet).into()),
-        ("table", table(&job.distances).into()),
-    ];
+    let mut kinds = vec![all, ("size", size(sheet).into())];
+
+    if sheet.call.has_table() {
+        kinds.push(("table", table(&job.distances).into()));
+    }
 
     if sheet.call.has_prices() {
         let price = if job.quadratic == 0 { "0" } else { "above 0" };
@@ -119,6 +123,11 @@ fn kinds<P: Planner>(sheet: &Sheet) -> Vec<Kind> {
             kinds.extend(ties::<P>(sheet).map(|tie| ("tie", tie.into())));
         }
         Call::Cancel => kinds.push(("cancellation", place(&routes(sheet), sheet.stop()).into())),
+        Call::View => kinds.push(("vans", vans(sheet).into())),
+        Call::MoveStop => {
+            kinds.push(("vans", vans(sheet).into()));
+            kinds.extend(moved::<P>(sheet));
+        }
         _ => {}
     }
 
@@ -284,6 +293,51 @@ fn ties<P: Planner>(sheet: &Sheet) -> impl Iterator<Item = &'static str> {
     ]
     .into_iter()
     .filter_map(|(applies, label)| applies.then_some(label))
+}
+
+/// Which vans the caller holds.
+fn vans(sheet: &Sheet) -> &'static str {
+    let count = sheet.job.vehicles.len();
+
+    match (0..count).filter(|&van| holds(sheet.vans(), van)).count() {
+        0 => "none",
+        own if own == count => "all",
+        1 => "one of several",
+        _ => "some",
+    }
+}
+
+/// Where a moved stop comes from and goes to, and how the cost changes.
+fn moved<P: Planner>(sheet: &Sheet) -> [Kind; 3] {
+    let routes = routes(sheet);
+    let (stop, van) = (sheet.stop() as usize, sheet.van() as usize);
+    let from = match routes.iter().position(|route| route.contains(&stop)) {
+        None => "from no route",
+        Some(own) if own == van => "from the same van",
+        Some(_) => "from another van",
+    };
+    let moved = P::move_stop(
+        &sheet.job,
+        &routes,
+        sheet.vans(),
+        stop,
+        van,
+        sheet.place() as usize,
+    );
+    let change = match moved.change {
+        0 => "none",
+        1.. => "to a higher cost",
+        _ => "to a lower cost",
+    };
+
+    [
+        ("move", from.into()),
+        (
+            "stop",
+            format!("then {}", place(&moved.routes, sheet.stop())),
+        ),
+        ("change", change.into()),
+    ]
 }
 
 fn draws(count: usize) -> &'static str {

@@ -239,7 +239,7 @@ fn refuses_and_goes_on_up_to_a_sheet_out_of_form() {
             lines(&[&[4], &[0, 1, 0], &[2, 0, 1]]) + &good,
             line(&[2]) + &job_a(1_000_001, 0, 50),
             line(&[5]) + &job_a(1_000_001, 0, 50),
-            line(&[10]) + &good,
+            line(&[12]) + &good,
             line(&[2]) + &good,
         ]
         .concat(),
@@ -452,6 +452,176 @@ fn reads_live_stops_as_two_numbers() {
         check("calls", &lines(&[&[call], &[0, 0, 0]]), &columns(&[14], 20));
         check("calls", &lines(&[&[call]]), &columns(&[14], 20));
     }
+}
+
+/// A sheet of a view (10) or a move (11) on Job A.
+fn vans_sheet(call: u64, given: &[u64], plan: &[u64]) -> String {
+    lines(&[&[call], given, plan]) + &job_a(1, 0, 50)
+}
+
+/// A change in 20 columns, then the plan.
+fn changed(change: i64, plan: &[u64]) -> String {
+    format!("{change:>20}\n") + &line(plan)
+}
+
+#[test]
+fn shows_what_a_caller_holds() {
+    let none = [0, UNUSED, UNUSED];
+
+    for (vans, plan, unplaced, seen) in [
+        (0, [2, 0, 1], 0, none),
+        (1, [2, 0, 1], 0, [2, 0, 1]),
+        (0, [1, 1, UNUSED], 1, none),
+        (1, [1, 1, UNUSED], 1, [1, 1, UNUSED]),
+        (1, none, 3, none),
+    ] {
+        check(
+            "calls",
+            &vans_sheet(10, &[vans], &plan),
+            &(columns(&[unplaced], 20) + &line(&seen)),
+        );
+    }
+
+    // Stops 3 and 1 of the second van, without those of the first and the third.
+    let job = job([3, 6, 1, 1, 0, 0, 1, 1], &[[0, 0]; 3], &[0; 6], &[&[0]]);
+
+    check(
+        "calls",
+        &(lines(&[&[10], &[0b010], &[1, 2, 1, 2, 3, 1, 5, UNUSED, UNUSED]]) + &job),
+        &(columns(&[0b010001], 20) + &line(&[0, 2, 0, 3, 1, UNUSED, UNUSED, UNUSED, UNUSED])),
+    );
+}
+
+#[test]
+fn shows_the_last_stop_as_unplaced() {
+    let job = job([0, 64, 1, 1, 0, 5, 1, 1], &[], &[0; 64], &[&[0]]);
+    let plan = line(&[UNUSED; 64]);
+
+    check(
+        "calls",
+        &(lines(&[&[10], &[0], &[UNUSED; 64]]) + &job),
+        &(columns(&[u64::MAX], 20) + &plan),
+    );
+}
+
+#[test]
+fn moves_stops_of_job_a() {
+    let one = [1, 0, UNUSED];
+
+    for (given, plan, answer) in [
+        // 20 metres become 6, and back.
+        ([1, 1, 0, 0], [2, 0, 1], changed(-14, &[2, 1, 0])),
+        ([1, 1, 0, 1], [2, 1, 0], changed(14, &[2, 0, 1])),
+        ([1, 1, 0, 1], [2, 0, 1], changed(0, &[2, 0, 1])),
+        // The place is counted without the stop: behind the other is 1, and 2 is beyond.
+        ([1, 0, 0, 1], [2, 0, 1], changed(-14, &[2, 1, 0])),
+        ([1, 0, 0, 2], [2, 0, 1], columns(&[15], 20)),
+        // 4 metres become 6 or 20, and a stop is missed no more.
+        ([1, 1, 0, 0], one, changed(-98, &[2, 1, 0])),
+        ([1, 1, 0, 1], one, changed(-84, &[2, 0, 1])),
+        ([1, 1, 0, 2], one, columns(&[15], 20)),
+        // Nobody's van, no van of the job, no stop of the job.
+        ([0, 1, 0, 0], one, columns(&[15], 20)),
+        ([1, 1, 1, 0], one, columns(&[15], 20)),
+        ([1, 1, 32, 0], one, columns(&[15], 20)),
+        ([3, 1, 0, 0], one, columns(&[15], 20)),
+        ([1, 2, 0, 0], one, columns(&[12], 20)),
+        ([2, 2, 1, 3], one, columns(&[12], 20)),
+        ([2, 2, 1, 3], [1, 2, UNUSED], columns(&[11], 20)),
+    ] {
+        check("calls", &vans_sheet(11, &given, &plan), &answer);
+    }
+}
+
+#[test]
+fn counts_the_callers_vans() {
+    let job = job(
+        [2, 2, 3, 1, 1, 9, 1, 1],
+        &[[0, 0], [0, 2]],
+        &[1, 2],
+        &[&[0, 2, 2], &[2, 0, 4], &[2, 4, 0]],
+    );
+    let sheet = |given: [u64; 4]| lines(&[&[11], &given, &[2, 0, 0, 1]]) + &job;
+
+    // The first van has 4 metres, at 20, for 8, at 72; the second 6, at 42, for 2, at 6.
+    check(
+        "calls",
+        &sheet([3, 0, 1, 0]),
+        &changed(20 - 72 + 42 - 6, &[1, 1, 1, 0]),
+    );
+    check("calls", &sheet([1, 0, 1, 0]), &columns(&[15], 20));
+    check("calls", &sheet([2, 0, 1, 0]), &columns(&[15], 20));
+    check("calls", &sheet([1, 0, 0, 1]), &changed(0, &[2, 0, 1, 0]));
+}
+
+#[test]
+fn reads_as_many_numbers_as_a_caller_gives() {
+    let plan = [2, 0, 1];
+    let most = u32::MAX as u64;
+
+    for given in [&[][..], &[1, 0], &[1, 0, 0, 0], &[most + 1]] {
+        check("calls", &vans_sheet(10, given, &plan), &columns(&[14], 20));
+    }
+
+    for given in [
+        &[][..],
+        &[1],
+        &[1, 1, 0],
+        &[1, 1, 0, 0, 0],
+        &[most + 1, 1, 0, 0],
+        &[1, most + 1, 0, 0],
+        &[1, 1, most + 1, 0],
+        &[1, 1, 0, most + 1],
+    ] {
+        check("calls", &vans_sheet(11, given, &plan), &columns(&[14], 20));
+    }
+
+    // The sheet ends before its plan, or before its job.
+    for sheet in [
+        lines(&[&[10]]),
+        lines(&[&[10], &[1]]),
+        lines(&[&[11], &[1, 1, 0, 0]]),
+        lines(&[&[11], &[1, 1, 0, 0], &plan]),
+    ] {
+        check("calls", &sheet, &columns(&[14], 20));
+    }
+
+    check(
+        "calls",
+        &vans_sheet(10, &[most], &plan),
+        &columns(&[15], 20),
+    );
+}
+
+#[test]
+fn views_without_looking_at_the_table() {
+    // A location, a distance and prices that every other call refuses.
+    let job = job(
+        [1, 1, 1, 1_000_001, 17, 10_000_000_000_001, 0, 0],
+        &[[7, 8]],
+        &[9],
+        &[&[200_001]],
+    );
+
+    check(
+        "calls",
+        &[
+            lines(&[&[10], &[1], &[1, 0]]) + &job,
+            lines(&[&[10], &[2], &[1, 0]]) + &job,
+            lines(&[&[10], &[2], &[1, 1]]) + &job,
+            lines(&[&[10], &[2], &[1, 1, 0]]) + &job,
+            lines(&[&[11], &[2, 9, 9, 9], &[1, 1]]) + &job,
+        ]
+        .concat(),
+        &[
+            columns(&[0], 20) + &line(&[1, 0]),
+            columns(&[15], 20),
+            columns(&[11], 20),
+            columns(&[4], 20),
+            columns(&[6], 20),
+        ]
+        .concat(),
+    );
 }
 
 #[test]

@@ -1,4 +1,4 @@
-use sheet::{all_stops, decode, given_live, placed_stops, refusal, Call, Job, Sheet};
+use sheet::{all_stops, decode, given_live, placed_stops, refusal, Call, Job, Routes, Sheet};
 
 /// The arguments of a call as they cross the border, of whatever lengths. What the call does not take is not read.
 #[derive(Clone, Debug)]
@@ -18,21 +18,40 @@ pub struct Arguments {
     pub given: Vec<u32>,
     pub live: u64,
     pub stop: u32,
+    /// The caller's vans.
+    pub vans: u32,
+    pub van: u32,
+    pub place: u32,
+    /// The list that a view is written to.
+    pub seen: Vec<u32>,
 }
 
 impl Arguments {
-    /// The arguments of a sheet, with a plan to write where it has none.
-    pub fn new(sheet: Sheet, written: impl FnMut() -> u32) -> Self {
-        let (given, live, stop) = if sheet.call.has_live_stops() {
-            (vec![], sheet.live(), sheet.stop())
-        } else {
-            (sheet.given, 0, 0)
+    /// The arguments of a sheet, with a plan to write where it has none, and a list for a view.
+    pub fn new(sheet: Sheet, mut written: impl FnMut() -> u32) -> Self {
+        let call = sheet.call;
+        let is_move = call == Call::MoveStop;
+        let (live, stop) = match call {
+            Call::Arrive | Call::Cancel => (sheet.live(), sheet.stop()),
+            Call::MoveStop => (0, sheet.stop()),
+            _ => (0, 0),
+        };
+        let vans = if call.has_vans() { sheet.vans() } else { 0 };
+        let [van, place] = match is_move {
+            true => [sheet.van(), sheet.place()],
+            false => [0; 2],
+        };
+        let given = match call.has_given_stops() {
+            true => sheet.given,
+            false => vec![],
         };
         let job = sheet.job;
         let length = job.vehicles.len() + job.stops.len();
+        let seen_length = if call == Call::View { length } else { 0 };
+        let seen = (0..seen_length).map(|_| written()).collect();
 
         Self {
-            call: sheet.call,
+            call,
             vehicles: job.vehicles.concat(),
             stops: job.stops,
             locations: job.distances.len() as u32,
@@ -43,7 +62,7 @@ impl Arguments {
             smoothing: job.smoothing,
             limit: job.limit,
             draws: job.draws,
-            plan: if sheet.call.has_plan() {
+            plan: if call.has_plan() {
                 sheet.plan
             } else {
                 std::iter::repeat_with(written).take(length).collect()
@@ -51,6 +70,10 @@ impl Arguments {
             given,
             live,
             stop,
+            vans,
+            van,
+            place,
+            seen,
         }
     }
 
@@ -61,9 +84,35 @@ impl Arguments {
 
     /// The set of the plan's stops, empty where the plan is none.
     pub fn placed(&self) -> u64 {
+        self.routes().as_ref().map_or(0, placed_stops)
+    }
+
+    /// The plan's routes, where it is a plan.
+    pub fn routes(&self) -> Option<Routes> {
         decode(&self.plan, self.vehicles.len() / 2, self.stops.len())
-            .as_ref()
-            .map_or(0, placed_stops)
+    }
+
+    /// The set of all vans, as far as 32 bits go.
+    pub fn all_vans(&self) -> u32 {
+        all_stops((self.vehicles.len() / 2).min(u32::BITS as usize)) as u32
+    }
+
+    /// The van that the stop of a move is on, where it is on one.
+    pub fn source(&self) -> Option<usize> {
+        let stop = self.stop as usize;
+
+        self.routes()?
+            .iter()
+            .position(|route| route.contains(&stop))
+    }
+
+    /// How long the route of a move's van is without the stop, where there is such a route.
+    pub fn end(&self) -> Option<usize> {
+        let stop = self.stop as usize;
+        let routes = self.routes()?;
+        let others = routes.get(self.van as usize)?.iter();
+
+        Some(others.filter(|&&other| other != stop).count())
     }
 
     /// The sheet that the arguments make, or the lowest number that refuses them ("Who can stop a call").
@@ -90,9 +139,13 @@ impl Arguments {
             (2, self.stops.len() > 64),
             (
                 3,
-                locations > 80 || self.distances.len() as u64 != locations * locations,
+                self.call.has_table()
+                    && (locations > 80 || self.distances.len() as u64 != locations * locations),
             ),
-            (4, self.plan.len() != places),
+            (
+                4,
+                self.plan.len() != places || self.call == Call::View && self.seen.len() != places,
+            ),
             (
                 5,
                 self.call == Call::Solve && !(1..=1_024).contains(&self.draws.len()),
@@ -108,10 +161,11 @@ impl Arguments {
 
         Sheet {
             call: self.call,
-            given: if self.call.has_live_stops() {
-                given_live(self.stop, self.live)
-            } else {
-                self.given.clone()
+            given: match self.call {
+                Call::Arrive | Call::Cancel => given_live(self.stop, self.live),
+                Call::View => vec![self.vans],
+                Call::MoveStop => vec![self.vans, self.stop, self.van, self.place],
+                _ => self.given.clone(),
             },
             plan: self.plan.clone(),
             job: Job {

@@ -10,7 +10,9 @@ const READ: &str = "a list that is only read, or a number beside it";
 const PLAN: &str = "the plan, or a number beside it";
 const COST: &str = "a cost, or a number beside it";
 const COUNT: &str = "a count of rounds, the word of settling, or a number beside it";
-const LIVE: &str = "the set of live stops, or a number beside it";
+const SET: &str = "the set of live stops or of those on no route, or a number beside it";
+const SEEN: &str = "what is seen of the plan, or a number beside it";
+const CHANGE: &str = "the change in cost, or a number beside it";
 
 /// Numbers with guard numbers before and after them.
 struct Guarded<T> {
@@ -75,8 +77,11 @@ pub struct Lent {
     costs: [Guarded<u64>; 2],
     /// Rounds, improving rounds, settled.
     counts: [Guarded<u32>; 3],
-    /// The live stops after the call.
-    after: Guarded<u64>,
+    /// The live stops after the call, or those on no route.
+    set: Guarded<u64>,
+    /// What a caller sees of the plan.
+    seen: Guarded<u32>,
+    change: Guarded<i64>,
 }
 
 impl Lent {
@@ -95,26 +100,32 @@ impl Lent {
             draws: list(&arguments.draws),
             given: list(&arguments.given),
             plan: list(&arguments.plan),
+            seen: list(&arguments.seen),
             counts: [0; 3].map(|_| {
                 let number = small(random);
 
                 Guarded::new(random, &[number], small)
             }),
             costs: [0; 2].map(|_| result(random)),
-            after: result(random),
+            set: result(random),
+            change: {
+                let number = signed(random);
+
+                Guarded::new(random, &[number], signed)
+            },
         }
     }
 
     /// Makes the call, and answers the number that it returns.
     #[rustfmt::skip]
     pub fn call(&mut self, arguments: &Arguments) -> u32 {
-        let Self { vehicles, stops, distances, draws, given, plan, costs: [cost, end], counts: [rounds, improving, settled], after } = self;
-        let &Arguments { call, locations, linear, quadratic, missed, smoothing, limit, live, stop, .. } = arguments;
-        let [vehicles, stops, distances, draws, given, plan] = [vehicles, stops, distances, draws, given, plan]
+        let Self { vehicles, stops, distances, draws, given, plan, costs: [cost, end], counts: [rounds, improving, settled], set, seen, change } = self;
+        let &Arguments { call, locations, linear, quadratic, missed, smoothing, limit, live, stop, vans, van, place, .. } = arguments;
+        let [vehicles, stops, distances, draws, given, plan, seen] = [vehicles, stops, distances, draws, given, plan, seen]
             .map(|list| (list.address(), list.length()));
         let [cost, end] = [cost, end].map(|cost| cost.address().cast::<f64>());
         let [rounds, improving, settled] = [rounds, improving, settled].map(Guarded::address);
-        let after = after.address();
+        let (set, change) = (set.address(), change.address());
 
         unsafe {
             match call {
@@ -149,11 +160,18 @@ impl Lent {
                 ),
                 Call::Arrive => raw::planner_arrive(
                     vehicles.0, vehicles.1, stops.0, stops.1, locations, distances.0, distances.1,
-                    linear, quadratic, missed, plan.0, plan.1, live, stop, after, cost,
+                    linear, quadratic, missed, plan.0, plan.1, live, stop, set, cost,
                 ),
                 Call::Cancel => raw::planner_cancel(
                     vehicles.0, vehicles.1, stops.0, stops.1, locations, distances.0, distances.1,
-                    linear, quadratic, missed, plan.0, plan.1, live, stop, after, cost,
+                    linear, quadratic, missed, plan.0, plan.1, live, stop, set, cost,
+                ),
+                Call::View => raw::planner_view(
+                    vehicles.0, vehicles.1, stops.0, stops.1, plan.0, plan.1, vans, seen.0, seen.1, set,
+                ),
+                Call::MoveStop => raw::planner_move_stop(
+                    vehicles.0, vehicles.1, stops.0, stops.1, locations, distances.0, distances.1,
+                    linear, quadratic, missed, plan.0, plan.1, vans, stop, van, place, change,
                 ),
             }
         }
@@ -169,22 +187,33 @@ impl Lent {
             &self.draws,
             &self.given,
         ];
-        let (plan, costs, counts, live) = match outcome {
-            Outcome::Refused(_) => (None, [None; 2], [None; 3], None),
+        let (lists, costs, counts, set, change) = match outcome {
+            Outcome::Refused(_) => ([None; 2], [None; 2], [None; 3], None, None),
             Outcome::Accepted {
                 plan,
+                seen,
                 costs,
                 counts,
-                live,
-            } => (plan.as_deref(), *costs, *counts, *live),
+                set,
+                change,
+            } => (
+                [plan.as_deref(), seen.as_deref()],
+                *costs,
+                *counts,
+                *set,
+                *change,
+            ),
         };
+        let [plan, seen] = lists;
 
         [
             (read.iter().all(|list| list.is_unchanged()), READ),
             (holds(&self.plan, plan), PLAN),
             (hold(&self.costs, &costs), COST),
             (hold(&self.counts, &counts), COUNT),
-            (hold([&self.after], &[live]), LIVE),
+            (hold([&self.set], &[set]), SET),
+            (holds(&self.seen, seen), SEEN),
+            (hold([&self.change], &[change]), CHANGE),
         ]
         .into_iter()
         .find_map(|(is_right, name)| (!is_right).then_some(name))
@@ -214,6 +243,10 @@ fn small(random: &mut Random) -> u32 {
     random.number() as u32
 }
 
+fn signed(random: &mut Random) -> i64 {
+    random.number() as i64
+}
+
 #[cfg(test)]
 mod tests {
     use super::*;
@@ -221,25 +254,25 @@ mod tests {
 
     type Fault = fn(&mut Lent);
 
-    const MAX_LINEAR_PRICE: u32 = 1_000_000;
-
-    /// A call on Job A, after which numbers are changed as a fault of the library could.
-    fn check(call: Call, linear: u32, fault: Fault, name: Option<&str>) {
+    /// A call on Job A, refused where a vehicle has no end, after which numbers are changed as a fault of the library could.
+    fn check(call: Call, is_refused: bool, fault: Fault, name: Option<&str>) {
         let random = &mut Random::new(1, 1);
         let mut arguments = Arguments::new(sheet_a(call), || 5);
 
-        arguments.linear = linear;
+        if is_refused {
+            arguments.vehicles.push(0);
+        }
 
         let outcome = Outcome::new(&arguments);
         let mut lent = Lent::new(random, &arguments);
 
-        assert_eq!(outcome.number() == 0, linear <= MAX_LINEAR_PRICE);
+        assert_eq!(outcome.number() != 0, is_refused);
         assert_eq!(lent.call(&arguments), outcome.number());
         fault(&mut lent);
         assert_eq!(lent.difference(&outcome), name, "{call:?}");
     }
 
-    const FAULTS: [(Fault, &str); 12] = [
+    const FAULTS: [(Fault, &str); 17] = [
         (|lent| lent.vehicles.memory[0] ^= 1, READ),
         (|lent| *lent.stops.memory.last_mut().unwrap() ^= 1, READ),
         (
@@ -255,19 +288,37 @@ mod tests {
             |lent| lent.counts[2].memory[lent.counts[2].start] ^= 1,
             COUNT,
         ),
-        (|lent| lent.after.memory[lent.after.start - 1] ^= 1, LIVE),
-        (|lent| lent.after.memory[lent.after.start] ^= 1 << 63, LIVE),
-        (|lent| lent.after.memory[lent.after.end] ^= 1, LIVE),
+        (|lent| lent.set.memory[lent.set.start - 1] ^= 1, SET),
+        (|lent| lent.set.memory[lent.set.start] ^= 1 << 63, SET),
+        (|lent| lent.set.memory[lent.set.end] ^= 1, SET),
+        (|lent| lent.seen.memory[lent.seen.start - 1] ^= 1, SEEN),
+        // A number that is seen, or the guard after an empty list.
+        (|lent| lent.seen.memory[lent.seen.start] ^= 1, SEEN),
+        (
+            |lent| lent.change.memory[lent.change.start - 1] ^= 1,
+            CHANGE,
+        ),
+        (
+            |lent| lent.change.memory[lent.change.start] ^= 1 << 62,
+            CHANGE,
+        ),
+        (|lent| lent.change.memory[lent.change.end] ^= 1, CHANGE),
     ];
 
     #[test]
     fn finds_what_was_changed() {
-        for call in [Call::Solve, Call::Arrive, Call::Cancel] {
-            for linear in [1, MAX_LINEAR_PRICE + 1] {
-                check(call, linear, |_| (), None);
+        for call in [
+            Call::Solve,
+            Call::Arrive,
+            Call::Cancel,
+            Call::View,
+            Call::MoveStop,
+        ] {
+            for is_refused in [false, true] {
+                check(call, is_refused, |_| (), None);
 
                 for (fault, name) in FAULTS {
-                    check(call, linear, fault, Some(name));
+                    check(call, is_refused, fault, Some(name));
                 }
             }
         }

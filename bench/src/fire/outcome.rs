@@ -1,6 +1,6 @@
 use super::arguments::Arguments;
 use plain::Plain;
-use sheet::{decode, encode, Call, Changed, Planner, Routes, Sheet};
+use sheet::{decode, encode, Call, Changed, Moved, Planner, Routes, Seen, Sheet};
 
 /// What a call must do: the number of its refusal, with all that it was lent as it was, or the plan and the results that it must
 /// leave. What is none is to be as it was.
@@ -9,10 +9,14 @@ pub enum Outcome {
     Refused(u32),
     Accepted {
         plan: Option<Vec<u32>>,
+        /// What a caller sees of the plan.
+        seen: Option<Vec<u32>>,
         /// A cost, or start and end cost, as the bits of f64.
         costs: [Option<u64>; 2],
         counts: [Option<u32>; 3],
-        live: Option<u64>,
+        /// The live stops, or those on no route.
+        set: Option<u64>,
+        change: Option<i64>,
     },
 }
 
@@ -53,14 +57,27 @@ fn accepted(sheet: &Sheet) -> Outcome {
 
             Outcome::Accepted {
                 plan: Some(encode(&routes, job.stops.len())),
+                seen: None,
                 costs: [run.start_cost, run.end_cost].map(|cost| Some(bits(cost))),
                 counts: [run.rounds, run.improving_rounds, run.settled as u64]
                     .map(|count| Some(count as u32)),
-                live: None,
+                set: None,
+                change: None,
             }
         }
         Call::Arrive => changed(sheet, Plain::arrive(job, &routes(), sheet.live(), given[0])),
         Call::Cancel => changed(sheet, Plain::cancel(job, &routes(), sheet.live(), given[0])),
+        Call::View => seen(sheet, Plain::view(job, &routes(), sheet.vans())),
+        Call::MoveStop => {
+            let [_, stop, van, place] = given[..] else {
+                unreachable!("a move's numbers")
+            };
+
+            moved(
+                sheet,
+                Plain::move_stop(job, &routes(), sheet.vans(), stop, van, place),
+            )
+        }
     }
 }
 
@@ -68,9 +85,35 @@ fn accepted(sheet: &Sheet) -> Outcome {
 fn changed(sheet: &Sheet, changed: Changed) -> Outcome {
     Outcome::Accepted {
         plan: Some(encode(&changed.routes, sheet.job.stops.len())),
+        seen: None,
         costs: [Some(bits(changed.cost)), None],
         counts: [None; 3],
-        live: Some(changed.live),
+        set: Some(changed.live),
+        change: None,
+    }
+}
+
+/// What a view leaves.
+fn seen(sheet: &Sheet, seen: Seen) -> Outcome {
+    Outcome::Accepted {
+        plan: None,
+        seen: Some(encode(&seen.routes, sheet.job.stops.len())),
+        costs: [None; 2],
+        counts: [None; 3],
+        set: Some(seen.unplaced),
+        change: None,
+    }
+}
+
+/// What a move leaves.
+fn moved(sheet: &Sheet, moved: Moved) -> Outcome {
+    Outcome::Accepted {
+        plan: Some(encode(&moved.routes, sheet.job.stops.len())),
+        seen: None,
+        costs: [None; 2],
+        counts: [None; 3],
+        set: None,
+        change: Some(moved.change),
     }
 }
 
@@ -78,9 +121,11 @@ fn changed(sheet: &Sheet, changed: Changed) -> Outcome {
 fn left(sheet: &Sheet, routes: Option<&Routes>, cost: Option<u64>) -> Outcome {
     Outcome::Accepted {
         plan: routes.map(|routes| encode(routes, sheet.job.stops.len())),
+        seen: None,
         costs: [cost.map(bits), None],
         counts: [None; 3],
-        live: None,
+        set: None,
+        change: None,
     }
 }
 

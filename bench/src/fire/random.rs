@@ -66,6 +66,10 @@ fn change(random: &mut Random, arguments: &mut Arguments) {
         return change_live(random, arguments);
     }
 
+    if arguments.call.has_vans() && random.once_in(2) {
+        return change_vans(random, arguments);
+    }
+
     let stop_count = arguments.stops.len() as u32;
     let locations = arguments.locations;
     let location = random.choose(&[0, locations.wrapping_sub(1), locations, u32::MAX]);
@@ -171,6 +175,59 @@ fn fitted_live(random: &mut Random, arguments: &Arguments) -> u64 {
     }
 }
 
+/// Changes what a caller asks for: the vans, the list of a view, or the stop, the van or the place of a move.
+fn change_vans(random: &mut Random, arguments: &mut Arguments) {
+    let vehicle_count = arguments.vehicles.len() as u32 / 2;
+    let stop_count = arguments.stops.len() as u32;
+    let noise = random.number() as u32;
+    let is_move = arguments.call == Call::MoveStop;
+
+    match random.below(if is_move { 5 } else { 2 }) {
+        0 => {
+            let all = arguments.all_vans();
+            let one = 1 << (noise % u32::BITS);
+            let flipped = arguments.vans ^ one;
+
+            arguments.vans = random.choose(&[0, all, noise & all, flipped, one, noise, u32::MAX]);
+        }
+        1 if is_move => {
+            let some = random.small(0..=stop_count);
+
+            arguments.stop = random.choose(&[
+                some,
+                some,
+                stop_count.wrapping_sub(1),
+                stop_count,
+                64,
+                some.wrapping_add(64),
+                u32::MAX,
+                noise,
+            ]);
+        }
+        1 => resize(random, &mut arguments.seen, &[0, 80, 81, 96]),
+        2 => {
+            let some = random.small(0..=vehicle_count);
+
+            arguments.van = random.choose(&[
+                some,
+                vehicle_count,
+                31,
+                32,
+                some + 32,
+                some + 64,
+                u32::MAX,
+                noise,
+            ]);
+        }
+        3 => {
+            let end = arguments.end().unwrap_or(0) as u32;
+
+            arguments.place = random.choose(&[0, end, end.wrapping_sub(1), end + 1, end + 2]);
+        }
+        _ => arguments.place = random.choose(&[stop_count, 64, 1 << 31, u32::MAX, noise]),
+    }
+}
+
 /// Gives a list another length: one of these, one more or one less. New numbers are a copy of the last.
 fn resize(random: &mut Random, list: &mut Vec<u32>, lengths: &[usize]) {
     let length = match random.below(4) {
@@ -183,11 +240,15 @@ fn resize(random: &mut Random, list: &mut Vec<u32>, lengths: &[usize]) {
     list.resize(length, last);
 }
 
-/// Mostly gives the plan the length that vehicles and stops ask for, and then live stops by it.
+/// Mostly gives the plan, and the list of a view, the length that vehicles and stops ask for, and then live stops by it.
 fn fit_plan(random: &mut Random, arguments: &mut Arguments) {
     if !random.once_in(4) {
         arguments.plan = plan(random, arguments.vehicles.len() / 2, arguments.stops.len());
         arguments.live = fitted_live(random, arguments);
+
+        if arguments.call == Call::View {
+            arguments.seen = arguments.plan.iter().map(|number| !number).collect();
+        }
     }
 }
 
@@ -226,12 +287,13 @@ fn set(random: &mut Random, list: &mut [u32], number: u32) {
 
 /// Fills a list with numbers without a meaning.
 fn fill(random: &mut Random, arguments: &mut Arguments) {
-    let list = match random.below(6) {
+    let list = match random.below(7) {
         0 => &mut arguments.vehicles,
         1 => &mut arguments.stops,
         2 => &mut arguments.distances,
         3 => &mut arguments.draws,
         4 => &mut arguments.given,
+        5 => &mut arguments.seen,
         _ => &mut arguments.plan,
     };
     let mask = random.choose(&[u32::MAX, 127, 3]);
@@ -259,6 +321,10 @@ fn empty(random: &mut Random, arguments: &mut Arguments) {
 
     if chosen() {
         arguments.plan.clear();
+    }
+
+    if chosen() {
+        arguments.seen.clear();
     }
 
     // The pair of a two-opt is no list.

@@ -10,41 +10,67 @@ use borrow.Author.Tests.{ltb-false, leb-true, not-false}
 use Rattle.model.specs.Lists.{member, Once, allBelow, allOnce}
 use Rattle.model.specs.declared.Prices.{Prices}
 use Rattle.model.specs.Job.{Job, vehicleCount, stopCount}
-use Rattle.model.specs.Plan.{Lent, Sizes, usedPart, decode}
+use Rattle.model.specs.Plan.{Plan, routeOf, Lent, Sizes, usedPart, decode}
 use Rattle.model.specs.StopSet.{contains, stopsOf}
-use Rattle.model.specs.Live.{Covers}
+use Rattle.model.specs.Live.{Covers, cancelled}
+use Rattle.model.specs.Vans.{Move, Held, badVans, onOthersVan, beyondEnd, badMove}
 use Rattle.model.specs.Legs.{Affordable}
-use Rattle.model.specs.Refusals.{Arguments, naming, Call, Weigh, StartPlan, TwoOpt, Rebuild, Exhaustive, Pruned, Solve, Arrive, Cancel, asked, refusal, within, badDraws, badPrices, badSmoothing, badPlan, allLive, badLive, badLives, badGiven, badArrival, badCancellation, tooLarge}
+use Rattle.model.specs.Refusals.{Arguments, naming, looking, moving, Call, Weigh, StartPlan, TwoOpt, Rebuild, Exhaustive, Pruned, Solve, Arrive, Cancel, View, MoveStop, asked, refusal, within, badLength, badDraws, badPrices, badSmoothing, badPlan, allLive, badLive, badLives, badGiven, badArrival, badCancellation, tooLarge}
 use Rattle.model.proofs.Lists.{neither, one-same}
 use Rattle.model.proofs.Counts.{Below, allBelow-below, allOnce-once}
+use Rattle.model.proofs.Order.{both}
 use Rattle.model.proofs.PlanForm.{isPlan-lent, concat-decode}
+use Rattle.model.proofs.Vans.{van-lt}
 use Rattle.call_tests.proofs.Live.{all-live}
-use Rattle.call_refusals.proofs.Passed.{none-applies, sized}
+use Rattle.call_refusals.proofs.Passed.{none-applies, right-length, sized}
 use Rattle.distance.specs.Table.{InLimits}
 use Rattle.distance.proofs.Limits.{in-limits}
 
--- 1 to 4, 6 and 7, which every call tests
-pub record Listed (A : Arguments) : Type 0 where
-  pub limits : InLimits (A .job .vehicles) (A .job .stops) (A .job .locations) (A .job .distances)
+-- 1, 2 and 4, which every call tests, and 3, 6 and 7, which every call tests that has a table
+pub record Listed (c : Call) (A : Arguments) : Type 0 where
+  pub limits : member 3 (asked c) ≡ true → InLimits (A .job .vehicles) (A .job .stops) (A .job .locations) (A .job .distances)
   pub sizes : Sizes (vehicleCount (A .job)) (stopCount (A .job))
   pub long : length (A .plan) ≡ vehicleCount (A .job) + stopCount (A .job)
 
-asked-by-all : (c : Call)
-    → (member 1 (asked c) ≡ true)
-    × (member 2 (asked c) ≡ true)
-    × (member 3 (asked c) ≡ true)
-    × (member 4 (asked c) ≡ true)
-    × (member 6 (asked c) ≡ true)
-    × (member 7 (asked c) ≡ true)
-asked-by-all Weigh = (refl, refl, refl, refl, refl, refl)
-asked-by-all StartPlan = (refl, refl, refl, refl, refl, refl)
-asked-by-all TwoOpt = (refl, refl, refl, refl, refl, refl)
-asked-by-all Rebuild = (refl, refl, refl, refl, refl, refl)
-asked-by-all Exhaustive = (refl, refl, refl, refl, refl, refl)
-asked-by-all Pruned = (refl, refl, refl, refl, refl, refl)
-asked-by-all Solve = (refl, refl, refl, refl, refl, refl)
-asked-by-all Arrive = (refl, refl, refl, refl, refl, refl)
-asked-by-all Cancel = (refl, refl, refl, refl, refl, refl)
+asked-by-all : (c : Call) → (member 1 (asked c) ≡ true) × (member 2 (asked c) ≡ true) × (member 4 (asked c) ≡ true)
+asked-by-all Weigh = (refl, refl, refl)
+asked-by-all StartPlan = (refl, refl, refl)
+asked-by-all TwoOpt = (refl, refl, refl)
+asked-by-all Rebuild = (refl, refl, refl)
+asked-by-all Exhaustive = (refl, refl, refl)
+asked-by-all Pruned = (refl, refl, refl)
+asked-by-all Solve = (refl, refl, refl)
+asked-by-all Arrive = (refl, refl, refl)
+asked-by-all Cancel = (refl, refl, refl)
+asked-by-all View = (refl, refl, refl)
+asked-by-all MoveStop = (refl, refl, refl)
+
+asked-of-table : (c : Call) → member 3 (asked c) ≡ true → (member 6 (asked c) ≡ true) × (member 7 (asked c) ≡ true)
+asked-of-table Weigh m = (refl, refl)
+asked-of-table StartPlan m = (refl, refl)
+asked-of-table TwoOpt m = (refl, refl)
+asked-of-table Rebuild m = (refl, refl)
+asked-of-table Exhaustive m = (refl, refl)
+asked-of-table Pruned m = (refl, refl)
+asked-of-table Solve m = (refl, refl)
+asked-of-table Arrive m = (refl, refl)
+asked-of-table Cancel m = (refl, refl)
+asked-of-table View m = both m refl
+asked-of-table MoveStop m = (refl, refl)
+
+-- a call that has prices has a table
+pub priced-table : (c : Call) → member 8 (asked c) ≡ true → member 3 (asked c) ≡ true
+priced-table Weigh m = refl
+priced-table StartPlan m = refl
+priced-table TwoOpt m = refl
+priced-table Rebuild m = refl
+priced-table Exhaustive m = refl
+priced-table Pruned m = refl
+priced-table Solve m = refl
+priced-table Arrive m = refl
+priced-table Cancel m = refl
+priced-table View m = both m refl
+priced-table MoveStop m = refl
 
 -- one or two stops below n, not equal
 pub record Given (n : ℕ) (given : List ℕ) : Type 0 where
@@ -67,14 +93,15 @@ within-limits p h =
     record { linear = ltb-false _ _ (a .0); quadratic = ltb-false _ _ (b .0); missed = ltb-false _ _ (b .1) }
 
 module _ (c : Call) (A : Arguments) (e : refusal c A ≡ 0) where
-  pub listed : Listed A
+  pub listed : Listed c A
   listed =
       let m = asked-by-all c in
-      let s = sized c A (m .0) (m .1) (m .3) e in
+      let s = sized c A (m .0) (m .1) (m .2) e in
       record {
-        limits =
+        limits = λ h.
+            let t = asked-of-table c h in
             in-limits (A .job .vehicles) (A .job .stops) (A .job .locations) (A .job .distances) (none-applies c A e 1 (m .0)) (none-applies c A e 2 (m .1))
-            (none-applies c A e 3 (m .2)) (none-applies c A e 6 (m .4)) (none-applies c A e 7 (m .5));
+            (none-applies c A e 3 h) (none-applies c A e 6 (t .0)) (none-applies c A e 7 (t .1));
         sizes = s .sizes;
         long = s .long;
       }
@@ -119,6 +146,10 @@ module _ (c : Call) (A : Arguments) (e : refusal c A ≡ 0) where
       let a = neither (ltb 6 (stopCount (A .job))) (ltb 3 (vehicleCount (A .job))) (none-applies c A e 13 m) in
       (ltb-false _ _ (a .0), ltb-false _ _ (a .1))
 
+  -- 15: the set names no van from v on
+  pub vans-known : member 15 (asked c) ≡ true → badVans (vehicleCount (A .job)) (A .vans) ≡ false
+  vans-known m = neither (badVans (vehicleCount (A .job)) (A .vans)) _ (none-applies c A e 15 m) .0
+
 -- 11: a live set that fits the plan
 pub covers : (c : Call) (J : Job) (plan : List ℕ) (live s : ℕ) → refusal c (naming J plan live s) ≡ 0 → member 11 (asked c) ≡ true
     → Covers (stopCount J) live (decode (vehicleCount J) plan)
@@ -145,3 +176,34 @@ module _ (J : Job) (plan : List ℕ) (live s : ℕ) where
   pub cancelling : refusal Cancel (naming J plan live s) ≡ 0 → (s < stopCount J) × (contains s live ≡ true)
   unfolding badCancellation
   cancelling e = (named Cancel e refl, not-false _ (none-applies Cancel (naming J plan live s) e 17 refl))
+
+-- 4: the list that a view is written to
+pub seen-long : (J : Job) (plan : List ℕ) (vans : ℕ) (seen : List ℕ) → refusal View (looking J plan vans seen) ≡ 0
+    → length seen ≡ vehicleCount J + stopCount J
+seen-long J plan vans seen e =
+    right-length _ _ seen (neither (badLength (vehicleCount J) (stopCount J) seen) _ (none-applies View (looking J plan vans seen) e 4 refl) .0)
+
+-- 12 and 15: a move of a stop below n, by a caller who holds the vans that it changes, to a place of a van below v
+pub record Allowed (J : Job) (plan : List ℕ) (vans : ℕ) (m : Move) : Type 0 where
+  pub stop : m .stop < stopCount J
+  pub van : m .van < vehicleCount J
+  pub place : m .place ≤ length (routeOf (cancelled (m .stop) (decode (vehicleCount J) plan)) (m .van))
+  pub held : Held vans m (decode (vehicleCount J) plan)
+
+module _ (J : Job) (plan : List ℕ) (vans : ℕ) (m : Move) (e : refusal MoveStop (moving J plan vans m) ≡ 0) where
+  pub move-passes : badMove vans m (decode (vehicleCount J) plan) ≡ false
+  move-passes = neither (badVans (vehicleCount J) vans) _ (none-applies MoveStop (moving J plan vans m) e 15 refl) .1
+
+  pub allowed : Allowed J plan vans m
+  unfolding badMove beyondEnd
+  allowed =
+      let P : Plan = decode (vehicleCount J) plan in
+      let a = neither (onOthersVan vans (m .stop) P) _ move-passes in
+      let b = neither (not (contains (m .van) vans)) (beyondEnd m P) (a .1) in
+      let to : contains (m .van) vans ≡ true = not-false _ (b .0) in
+      record {
+        stop = stops MoveStop (moving J plan vans m) e refl .below (m .stop) (omega (arith, one-same (m .stop) (m .stop) refl));
+        van = van-lt (vehicleCount J) vans (m .van) (vans-known MoveStop (moving J plan vans m) e refl) to;
+        place = ltb-false _ _ (b .1);
+        held = record { source = a .0; target = to };
+      }

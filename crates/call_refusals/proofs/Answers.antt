@@ -1,19 +1,25 @@
 -- The calls' answers and the plan that they leave, from the number of the refusal.
-use mathlib.Core.Path.{_≡_, refl, ap, ap₂, _∙_}
-use mathlib.Core.List.{List}
+use mathlib.Core.Path.{_≡_, refl, sym, ap, ap₂, _∙_}
+use mathlib.Core.List.{List, [], _∷_}
 use Prim.Native.Nat.{ℕ, zero, suc}
 use lib.Ieee.{Float}
+use lib.IntN.{ℤ}
 use Rattle.model.specs.declared.Weighed.the-variants as W
 use Rattle.model.specs.declared.Written.the-variants as D
 use Rattle.model.specs.declared.Changed.{Changed}
 use Rattle.model.specs.declared.Changed.the-variants as C
+use Rattle.model.specs.declared.Viewed.{Viewed}
+use Rattle.model.specs.declared.Viewed.the-variants as Seen
+use Rattle.model.specs.declared.Moved.{Moved}
+use Rattle.model.specs.declared.Moved.the-variants as M
 use Rattle.model.specs.Whole.{whole}
 use Rattle.model.specs.Job.{stopCount}
 use Rattle.model.specs.Plan.{Plan, encode}
 use Rattle.model.specs.Cost.{cost}
 use Rattle.model.specs.Live.{liveCost}
-use Rattle.model.specs.Refusals.{Arguments, Call, StartPlan, refusal}
-use Rattle.model.specs.Calls.{weighed, written, changed, leftBy, made, newLive, planLeft, costAnswer, startAnswer, liveAnswer}
+use Rattle.model.specs.Vans.{unplacedSet, view, moved, costChange}
+use Rattle.model.specs.Refusals.{Arguments, seenGiven, moveGiven, Call, StartPlan, View, MoveStop, refusal}
+use Rattle.model.specs.Calls.{weighed, written, changed, viewed, carried, leftBy, seenBy, lentPlan, made, newLive, planLeft, seenLeft, costAnswer, startAnswer, liveAnswer, viewAnswer, moveAnswer, saidByViewed, saidByMoved, saying, signedSaying, viewSaid, moveSaid, Views, Moves}
 
 some-weighed : (x k : ℕ) → (x ≡ 0 → ⊥) → W.Refused x ≡ weighed x k
 some-weighed zero k h = absurd (h refl)
@@ -68,3 +74,70 @@ module _ (A : Arguments) where
   pub start-accepted : 0 ≡ refusal StartPlan A → D.Done ≡ startAnswer A
   unfolding startAnswer
   start-accepted e = ap written e
+
+-- ---- view
+
+some-viewed : (x set : ℕ) → (x ≡ 0 → ⊥) → Seen.Refused x ≡ viewed x set
+some-viewed zero set h = absurd (h refl)
+some-viewed (suc x) set h = refl
+
+some-seen : (x : ℕ) (A : Arguments) (P : Plan) → (x ≡ 0 → ⊥) → seenGiven A ≡ seenBy x A P
+some-seen zero A P h = absurd (h refl)
+some-seen (suc x) A P h = refl
+
+said-viewed : (x set : ℕ) → saidByViewed (viewed x set) ≡ saying x (set ∷ [])
+unfolding saidByViewed
+said-viewed zero set = refl
+said-viewed (suc x) set = refl
+
+module _ (A : Arguments) where
+  -- the set of unplaced stops
+  abbrev none : ℕ
+  none = unplacedSet (stopCount (A .job)) (lentPlan A)
+
+  views : (r : Viewed) (seen : List ℕ) → r ≡ viewed (refusal View A) none → seen ≡ seenBy (refusal View A) A (view (A .vans) (lentPlan A)) → Views A r seen
+  unfolding viewAnswer viewSaid seenLeft
+  views r seen h k = record { answer = h; said = ap saidByViewed h ∙ said-viewed (refusal View A) none; list = k }
+
+  pub views-refused : (x : ℕ) → x ≡ refusal View A → (x ≡ 0 → ⊥) → Views A (Seen.Refused x) (seenGiven A)
+  views-refused x e h =
+      views (Seen.Refused x) (seenGiven A) (some-viewed x none h ∙ ap (λ (y : ℕ). viewed y none) e)
+      (some-seen x A _ h ∙ ap (λ (y : ℕ). seenBy y A (view (A .vans) (lentPlan A))) e)
+
+  pub views-accepted : (set : ℕ) (seen : List ℕ) → refusal View A ≡ 0 → set ≡ unplacedSet (stopCount (A .job)) (lentPlan A)
+      → seen ≡ encode (stopCount (A .job)) (view (A .vans) (lentPlan A))
+      → Views A (Seen.Unplaced set) seen
+  views-accepted set seen e h k =
+      views (Seen.Unplaced set) seen (ap Seen.Unplaced h ∙ ap (λ (y : ℕ). viewed y none) (sym e))
+      (k ∙ ap (λ (y : ℕ). seenBy y A (view (A .vans) (lentPlan A))) (sym e))
+
+-- ---- move_stop
+
+some-carried : (x : ℕ) (z : ℤ) → (x ≡ 0 → ⊥) → M.Refused x ≡ carried x z
+some-carried zero z h = absurd (h refl)
+some-carried (suc x) z h = refl
+
+said-carried : (x : ℕ) (z : ℤ) → saidByMoved (carried x z) ≡ signedSaying x (z ∷ [])
+unfolding saidByMoved
+said-carried zero z = refl
+said-carried (suc x) z = refl
+
+module _ (A : Arguments) where
+  -- the change in cost
+  abbrev change : ℤ
+  change = costChange (A .job) (A .vans) (moveGiven A) (lentPlan A)
+
+  moves : (r : Moved) (left : List ℕ) → r ≡ carried (refusal MoveStop A) change → left ≡ planLeft MoveStop A → Moves A r left
+  unfolding moveAnswer moveSaid
+  moves r left h k = record { answer = h; said = ap saidByMoved h ∙ said-carried (refusal MoveStop A) change; plan = k }
+
+  pub moves-refused : (x : ℕ) → x ≡ refusal MoveStop A → (x ≡ 0 → ⊥) → Moves A (M.Refused x) (A .plan)
+  moves-refused x e h =
+      moves (M.Refused x) (A .plan) (some-carried x change h ∙ ap (λ (y : ℕ). carried y change) e) (left-alone MoveStop A x e h)
+
+  pub moves-accepted : (z : ℤ) (left : List ℕ) → refusal MoveStop A ≡ 0 → z ≡ costChange (A .job) (A .vans) (moveGiven A) (lentPlan A)
+      → left ≡ encode (stopCount (A .job)) (moved (moveGiven A) (lentPlan A))
+      → Moves A (M.Change z) left
+  unfolding made
+  moves-accepted z left e h k =
+      moves (M.Change z) left (ap M.Change h ∙ ap (λ (y : ℕ). carried y change) (sym e)) (left-new MoveStop A left (sym e) k)

@@ -3,3 +3,4 @@ pub mod Passed
 pub mod Accepted
 pub mod Answers
 pub mod Lowest
+pub mod Alike

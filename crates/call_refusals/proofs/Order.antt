@@ -5,7 +5,9 @@ use mathlib.Core.List.{List, [], _∷_}
 use Prim.Native.Nat.{ℕ, zero, suc}
 use Rattle.model.specs.declared.Prices.{Prices}
 use Rattle.model.specs.Job.{Job, jobOf, vehicleCount, stopCount}
-use Rattle.model.specs.Refusals.{Arguments, asking, naming, stopGiven, liveSet, Weigh, StartPlan, TwoOpt, Rebuild, Exhaustive, Pruned, Solve, Arrive, Cancel, refusal, badVehicles, badStops, badTable, badLength, badDraws, badLocations, badDistances, badPrices, badPlan, badLive, badLent, badGiven, badArrival, badCancellation, tooLarge, unpriced}
+use Rattle.model.specs.Plan.{decode}
+use Rattle.model.specs.Vans.{Move, badVans, badMove}
+use Rattle.model.specs.Refusals.{Arguments, asking, naming, looking, moving, stopGiven, liveSet, Weigh, StartPlan, TwoOpt, Rebuild, Exhaustive, Pruned, Solve, Arrive, Cancel, View, MoveStop, refusal, badVehicles, badStops, badTable, badLength, badSeen, badLengths, badDraws, badLocations, badDistances, badPrices, badPlan, badLive, badLent, badGiven, badArrival, badCancellation, tooLarge, unpriced}
 use Rattle.call_refusals.specs.Order.{ofShape, ofEntries, ofJob, ofNumbers, first}
 
 -- 1 to 4, then the rest
@@ -34,6 +36,11 @@ either-first true true r = refl
 either-first true false r = refl
 either-first false true r = refl
 either-first false false r = refl
+
+-- the same with the second condition tested after the first
+or-next : (a b : Bool) (k r : ℕ) → cond (a || b) k r ≡ cond a k (cond b k r)
+or-next true b k r = refl
+or-next false b k r = refl
 
 -- one number, then the rest
 one-first : (b : Bool) (k r : ℕ) → cond b (suc k) r ≡ first (cond b (suc k) 0) r
@@ -72,94 +79,101 @@ module _ (A : Arguments) where
   abbrev pub jobTests : ℕ
   jobTests = ofJob (A .job .vehicles) (A .job .stops) (A .job .locations) (A .job .distances) (A .job .prices) (A .plan)
 
+-- the calls that write to no list but the plan
+module _ (A : Arguments) (plain : A .seen ≡ []) where
   -- 1 to 4, then what comes after
   leading : (r : ℕ)
       → cond (badVehicles (A .job .vehicles)) 1
-      (cond (badStops (A .job .stops)) 2
-      (cond (badTable (A .job .locations) (A .job .distances)) 3
-      (cond (badLength (vehicleCount (A .job)) (stopCount (A .job)) (A .plan)) 4 r)))
-      ≡ first shapeTests r
+      (cond (badStops (A .job .stops)) 2 (cond (badTable (A .job .locations) (A .job .distances)) 3 (cond (badLengths A) 4 r)))
+      ≡ first (shapeTests A) r
   unfolding ofShape
   leading r =
-      shape-first (badVehicles (A .job .vehicles)) (badStops (A .job .stops)) (badTable (A .job .locations) (A .job .distances))
+      let v : ℕ = vehicleCount (A .job) in
+      let n : ℕ = stopCount (A .job) in
+      ap
+      (λ (seen : List (List ℕ)). cond (badVehicles (A .job .vehicles)) 1
+      (cond (badStops (A .job .stops)) 2
+      (cond (badTable (A .job .locations) (A .job .distances)) 3 (cond (badSeen v n seen || badLength v n (A .plan)) 4 r))))
+      plain
+      ∙ shape-first (badVehicles (A .job .vehicles)) (badStops (A .job .stops)) (badTable (A .job .locations) (A .job .distances))
       (badLength (vehicleCount (A .job)) (stopCount (A .job)) (A .plan)) r
 
   -- 6 and 7, then what comes after
   listed : (r : ℕ)
       → cond (badLocations (A .job .vehicles) (A .job .stops) (A .job .locations)) 6 (cond (badDistances (A .job .distances)) 7 r)
-      ≡ first entryTests r
+      ≡ first (entryTests A) r
   unfolding ofEntries
   listed r = entries-first (badLocations (A .job .vehicles) (A .job .stops) (A .job .locations)) (badDistances (A .job .distances)) r
 
   -- 1 to 4 and 6 to 8, then what comes after
-  priced : (r : ℕ) → first shapeTests (first entryTests (cond (badPrices (A .job .prices)) 8 r)) ≡ first jobTests r
+  priced : (r : ℕ) → first (shapeTests A) (first (entryTests A) (cond (badPrices (A .job .prices)) 8 r)) ≡ first (jobTests A) r
   unfolding ofJob
   priced r =
-      ap (λ (k : ℕ). first shapeTests (first entryTests k)) (one-first (badPrices (A .job .prices)) 7 r)
-      ∙ ap (first shapeTests) (sym (first-of entryTests _ r))
-      ∙ sym (first-of shapeTests _ r)
+      ap (λ (k : ℕ). first (shapeTests A) (first (entryTests A) k)) (one-first (badPrices (A .job .prices)) 7 r)
+      ∙ ap (first (shapeTests A)) (sym (first-of (entryTests A) _ r))
+      ∙ sym (first-of (shapeTests A) _ r)
 
-  pub start-order : refusal StartPlan A ≡ first shapeTests entryTests
+  pub start-order : refusal StartPlan A ≡ first (shapeTests A) (entryTests A)
   unfolding refusal ofEntries
   start-order = leading _
 
-  pub weigh-order : refusal Weigh A ≡ first jobTests (cond (badLent A) 11 0)
+  pub weigh-order : refusal Weigh A ≡ first (jobTests A) (cond (badLent A) 11 0)
   unfolding refusal
-  weigh-order = leading _ ∙ ap (first shapeTests) (listed _) ∙ priced _
+  weigh-order = leading _ ∙ ap (first (shapeTests A)) (listed _) ∙ priced _
 
-  given-order : refusal Rebuild A ≡ first jobTests (cond (badLent A) 11 (cond (badGiven (stopCount (A .job)) (A .given)) 12 0))
+  given-order : refusal Rebuild A ≡ first (jobTests A) (cond (badLent A) 11 (cond (badGiven (stopCount (A .job)) (A .given)) 12 0))
   unfolding refusal
-  given-order = leading _ ∙ ap (first shapeTests) (listed _) ∙ priced _
+  given-order = leading _ ∙ ap (first (shapeTests A)) (listed _) ∙ priced _
 
   -- a test after 12
-  given-then : (r : ℕ) → first jobTests (cond (badLent A) 11 (cond (badGiven (stopCount (A .job)) (A .given)) 12 r)) ≡ first (refusal Rebuild A) r
+  given-then : (r : ℕ) → first (jobTests A) (cond (badLent A) 11 (cond (badGiven (stopCount (A .job)) (A .given)) 12 r)) ≡ first (refusal Rebuild A) r
   given-then r =
-      ap (first jobTests) (given-first (badLent A) (badGiven (stopCount (A .job)) (A .given)) r)
-      ∙ sym (first-of jobTests _ r)
+      ap (first (jobTests A)) (given-first (badLent A) (badGiven (stopCount (A .job)) (A .given)) r)
+      ∙ sym (first-of (jobTests A) _ r)
       ∙ ap (λ (k : ℕ). first k r) (sym given-order)
 
   -- arrive and cancel make the tests of rebuild, then their own
   pub arrive-order : refusal Arrive A ≡ first (refusal Rebuild A) (cond (badArrival (liveSet A) (stopGiven A)) 16 0)
   unfolding refusal
-  arrive-order = leading _ ∙ ap (first shapeTests) (listed _) ∙ priced _ ∙ given-then _
+  arrive-order = leading _ ∙ ap (first (shapeTests A)) (listed _) ∙ priced _ ∙ given-then _
 
   pub cancel-order : refusal Cancel A ≡ first (refusal Rebuild A) (cond (badCancellation (liveSet A) (stopGiven A)) 17 0)
   unfolding refusal
-  cancel-order = leading _ ∙ ap (first shapeTests) (listed _) ∙ priced _ ∙ given-then _
+  cancel-order = leading _ ∙ ap (first (shapeTests A)) (listed _) ∙ priced _ ∙ given-then _
 
   -- two_opt makes the tests of rebuild, and pruned those of exhaustive
   pub two-opt-order : refusal Rebuild A ≡ refusal TwoOpt A
   unfolding refusal
   two-opt-order = refl
 
-  pub exhaustive-order : refusal Exhaustive A ≡ first jobTests (cond (tooLarge (vehicleCount (A .job)) (stopCount (A .job))) 13 0)
+  pub exhaustive-order : refusal Exhaustive A ≡ first (jobTests A) (cond (tooLarge (vehicleCount (A .job)) (stopCount (A .job))) 13 0)
   unfolding refusal
-  exhaustive-order = leading _ ∙ ap (first shapeTests) (listed _) ∙ priced _
+  exhaustive-order = leading _ ∙ ap (first (shapeTests A)) (listed _) ∙ priced _
 
   pub pruned-order : refusal Exhaustive A ≡ refusal Pruned A
   unfolding refusal
   pruned-order = refl
 
   pub solve-order : refusal Solve A
-      ≡ first shapeTests (cond (badDraws (A .draws)) 5 (first entryTests (ofNumbers (A .job .prices) (A .smoothing) (A .limit))))
+      ≡ first (shapeTests A) (cond (badDraws (A .draws)) 5 (first (entryTests A) (ofNumbers (A .job .prices) (A .smoothing) (A .limit))))
   unfolding refusal ofNumbers
-  solve-order = leading _ ∙ ap (λ (k : ℕ). first shapeTests (cond (badDraws (A .draws)) 5 k)) (listed _)
+  solve-order = leading _ ∙ ap (λ (k : ℕ). first (shapeTests A) (cond (badDraws (A .draws)) 5 k)) (listed _)
 
 pub job-order : (vs ss : List ℕ) (l : ℕ) (ds : List ℕ) (p : Prices) (plan : List ℕ)
     → first (refusal StartPlan (asking (jobOf vs ss l ds unpriced) plan [])) (cond (badPrices p) 8 0) ≡ ofJob vs ss l ds p plan
 unfolding ofJob
 job-order vs ss l ds p plan =
-    ap (λ (k : ℕ). first k (cond (badPrices p) 8 0)) (start-order (asking (jobOf vs ss l ds unpriced) plan []))
+    ap (λ (k : ℕ). first k (cond (badPrices p) 8 0)) (start-order (asking (jobOf vs ss l ds unpriced) plan []) refl)
     ∙ first-of (ofShape vs ss l ds plan) (ofEntries vs ss l ds) _
 
 pub rebuild-order : (J : Job) (plan given : List ℕ)
     → refusal Rebuild (asking J plan given) ≡ first (refusal Weigh (asking J plan [])) (cond (badGiven (stopCount J) given) 12 0)
 rebuild-order J plan given =
     let A : Arguments = asking J plan [] in
-    given-order (asking J plan given)
+    given-order (asking J plan given) refl
     ∙ ap (first (jobTests A)) (one-first (badPlan (vehicleCount J) (stopCount J) plan) 10 _)
     ∙ sym (first-of (jobTests A) _ _)
-    ∙ ap (λ (k : ℕ). first k (cond (badGiven (stopCount J) given) 12 0)) (sym (weigh-order A))
+    ∙ ap (λ (k : ℕ). first k (cond (badGiven (stopCount J) given) 12 0)) (sym (weigh-order A refl))
 
 -- 11 of the plan, then of the live set
 pub live-order : (J : Job) (plan : List ℕ) (live s : ℕ)
@@ -170,7 +184,37 @@ live-order J plan live s =
     let A : Arguments = asking J plan [] in
     let bad : Bool = badLive (vehicleCount J) (stopCount J) live plan in
     let stop : ℕ = cond (badGiven (stopCount J) (s ∷ [])) 12 0 in
-    given-order (naming J plan live s)
+    given-order (naming J plan live s) refl
     ∙ ap (first (jobTests A)) (either-first bad (badPlan (vehicleCount J) (stopCount J) plan) stop)
     ∙ sym (first-of (jobTests A) _ _)
-    ∙ ap (λ (k : ℕ). first k (cond bad 11 stop)) (sym (weigh-order A))
+    ∙ ap (λ (k : ℕ). first k (cond bad 11 stop)) (sym (weigh-order A refl))
+
+-- 15 of the set of vans, then of the move
+pub move-order : (J : Job) (plan : List ℕ) (vans : ℕ) (m : Move)
+    → refusal MoveStop (moving J plan vans m)
+    ≡ first (refusal Rebuild (asking J plan (m .stop ∷ [])))
+    (cond (badVans (vehicleCount J) vans) 15 (cond (badMove vans m (decode (vehicleCount J) plan)) 15 0))
+unfolding refusal
+move-order J plan vans m =
+    let A : Arguments = moving J plan vans m in
+    leading A refl _
+    ∙ ap (first (shapeTests A)) (listed A refl _)
+    ∙ priced A refl _
+    ∙ given-then A refl _
+    ∙ ap (first (refusal Rebuild A)) (or-next (badVans (vehicleCount J) vans) (badMove vans m (decode (vehicleCount J) plan)) 15 0)
+
+-- 4 of the list that a view is written to, then of the plan
+pub view-order : (J : Job) (plan : List ℕ) (vans : ℕ) (seen : List ℕ)
+    → refusal View (looking J plan vans seen)
+    ≡ cond (badVehicles (J .vehicles)) 1
+    (cond (badStops (J .stops)) 2
+    (cond (badLength (vehicleCount J) (stopCount J) seen) 4
+    (cond (badLength (vehicleCount J) (stopCount J) plan) 4
+    (cond (badPlan (vehicleCount J) (stopCount J) plan) 11 (cond (badVans (vehicleCount J) vans) 15 0)))))
+unfolding refusal
+view-order J plan vans seen =
+    let v : ℕ = vehicleCount J in
+    let n : ℕ = stopCount J in
+    ap (λ (k : ℕ). cond (badVehicles (J .vehicles)) 1 (cond (badStops (J .stops)) 2 k))
+    (or-next (badLength v n seen) (badLength v n plan) 4 _
+    ∙ ap (λ (k : ℕ). cond (badLength v n seen) 4 (cond (badLength v n plan) 4 (cond (badPlan v n plan) 11 k))) (or-next (badVans v vans) false 15 0))

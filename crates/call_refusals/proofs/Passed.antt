@@ -11,7 +11,8 @@ use Rattle.model.specs.Lists.{member}
 use Rattle.model.specs.Plan.{Sizes}
 use Rattle.model.specs.declared.Prices.{Prices}
 use Rattle.model.specs.Job.{jobOf, vehicleCount, stopCount}
-use Rattle.model.specs.Refusals.{Arguments, asking, Call, Test, tests, asked, firstOf, refusal, badLength, StartPlan, unpriced}
+use Rattle.model.specs.Refusals.{Arguments, asking, Call, Test, tests, asked, firstOf, refusal, badLength, badSeen, StartPlan, unpriced}
+use Rattle.model.proofs.Lists.{neither}
 use Rattle.call_refusals.specs.Order.{first, ofJob}
 use Rattle.call_tests.proofs.Laws.{few-vehicles, few-stops}
 use Rattle.call_refusals.proofs.Order.{job-order}
@@ -50,6 +51,11 @@ module _ (c : Call) (A : Arguments) where
   unfolding refusal
   none-applies e k m = no-test tests refl e k m
 
+-- 4: a list is as long as it is to be
+pub right-length : (v n : ℕ) (xs : List ℕ) → badLength v n xs ≡ false → length xs ≡ v + n
+unfolding badLength
+right-length v n xs h = eqb-true (length xs) (v + n) (not-false _ h)
+
 -- 1, 2 and 4: the numbers of vehicles and stops, and the length of the plan
 pub record Sized (v n : ℕ) (plan : List ℕ) : Type 0 where
   pub sizes : Sizes v n
@@ -57,7 +63,6 @@ pub record Sized (v n : ℕ) (plan : List ℕ) : Type 0 where
 
 pub sized : (c : Call) (A : Arguments) → member 1 (asked c) ≡ true → member 2 (asked c) ≡ true → member 4 (asked c) ≡ true → refusal c A ≡ 0
     → Sized (vehicleCount (A .job)) (stopCount (A .job)) (A .plan)
-unfolding badLength
 sized c A m₁ m₂ m₄ e =
     record {
       sizes =
@@ -65,7 +70,7 @@ sized c A m₁ m₂ m₄ e =
             vehicles = few-vehicles (A .job .vehicles) (none-applies c A e 1 m₁);
             stops = few-stops (A .job .stops) (none-applies c A e 2 m₂);
           };
-      long = eqb-true _ _ (not-false _ (none-applies c A e 4 m₄));
+      long = right-length _ _ _ (neither (badSeen (vehicleCount (A .job)) (stopCount (A .job)) (A .seen)) _ (none-applies c A e 4 m₄) .1);
     }
 
 first-zero : (a b : ℕ) → first a b ≡ 0 → a ≡ 0

@@ -2,7 +2,8 @@
 ghost use mathlib.Core.Path.{_≡_};
 ghost use mathlib.Core.List.{[]};
 ghost use Rattle.model.specs.Job.{jobOf};
-ghost use Rattle.model.specs.Refusals.{asking, naming, refusal, Weigh, StartPlan, Rebuild, Exhaustive, Solve, Arrive, Cancel, unpriced, running};
+ghost use Rattle.model.specs.Refusals.{asking, naming, looking, moving, tableless, refusal, Weigh, StartPlan, Rebuild, Exhaustive, Solve, Arrive, Cancel, View, MoveStop, unpriced, running};
+ghost use Rattle.model.specs.Vans.{moveTo};
 ghost use Rattle.call_refusals.specs.Order.{ofShape, ofEntries, ofJob, ofNumbers};
 use model::Prices;
 
@@ -274,4 +275,69 @@ pub fn of_cancel(
         return 17;
     }
     0
+}
+
+// What view is refused with: 1, 2, 4, 11, 15, or 0.
+pub fn of_view(vehicles: &[u32], stops: &[u32], plan: &[u32], vans: u32, seen: &[u32]) -> u32
+    ensures { λ r. ⌜ r ≡ refusal View (looking (tableless (now (vehicles .entry)) (now (stops .entry))) (now (plan .entry)) vans (now (seen .entry))) ⌝ }
+{
+    if call_tests::bad_vehicles(vehicles) {
+        return 1;
+    }
+    if call_tests::bad_stops(stops) {
+        return 2;
+    }
+    let v = vehicles.len() / 2;
+    let n = stops.len();
+    if call_tests::bad_length(v, n, seen) {
+        return 4;
+    }
+    if call_tests::bad_length(v, n, plan) {
+        return 4;
+    }
+    if !plan_form::is_plan(plan, v, n) {
+        return 11;
+    }
+    if van_tests::bad_vans(v, vans) {
+        return 15;
+    }
+    0
+}
+
+// What move_stop is refused with: 1 to 4, 6 to 8, 11, 12, 15, or 0.
+pub fn of_move_stop(
+    vehicles: &[u32],
+    stops: &[u32],
+    locations: u32,
+    distances: &[u32],
+    prices: Prices,
+    plan: &[u32],
+    vans: u32,
+    stop: u32,
+    van: u32,
+    place: u32,
+) -> u32
+    ensures { λ r. ⌜ r ≡ refusal MoveStop (moving (jobOf (now (vehicles .entry)) (now (stops .entry)) locations (now (distances .entry)) prices) (now (plan .entry)) vans (moveTo stop van place)) ⌝ }
+{
+    let given = [stop];
+    let read = of_rebuild(vehicles, stops, locations, distances, prices, plan, &given);
+    if read != 0 {
+        return read;
+    }
+    if van_tests::bad_vans(vehicles.len() / 2, vans) {
+        return 15;
+    }
+    if van_tests::bad_move(
+        plan,
+        vehicles.len() / 2,
+        stops.len(),
+        vans,
+        stop,
+        van,
+        place,
+    ) {
+        15
+    } else {
+        0
+    }
 }

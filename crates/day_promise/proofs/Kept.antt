@@ -1,5 +1,5 @@
 -- What holds of an empty plan and an empty live set, and is kept by every event, accepted or refused.
-use Prim.Native.Nat.{ℕ, zero, suc, _+_, _<_, _≤_}
+use Prim.Native.Nat.{ℕ, zero, suc, _<_, _≤_}
 use native.Mathlib.Omega.{arith}
 use mathlib.Core.Path.{_≡_, refl, sym, ap, subst, _∙_}
 use mathlib.Core.Logic.{_≢_, inl, inr}
@@ -7,7 +7,7 @@ use mathlib.Core.Bool.{Bool, true, false, cond, _&&_, and-eq-true-iff}
 use mathlib.Core.List.{List, [], _∷_}
 use lib.Dec.{eqb, ltb}
 use lib.ListN.{length, length-replicate}
-use borrow.Author.Tests.{eq-eqb, ltb-true}
+use borrow.Author.Tests.{ltb-true}
 use Rattle.model.specs.Lists.{concat, count, Once}
 use Rattle.model.specs.Whole.{whole}
 use Rattle.model.specs.Job.{Job, vehicleCount, stopCount}
@@ -16,11 +16,11 @@ use Rattle.model.specs.StopSet.{bit, contains, including, excluding, stopsOf}
 use Rattle.model.specs.Rebuild.{emptyPlan}
 use Rattle.model.specs.Live.{Covers, liveCost, arrived, cancelled}
 use Rattle.model.specs.Calls.{made, newLive, planLeft, liveAnswer}
-use Rattle.model.specs.Refusals.{badLive, refusal, badLength, badPlan}
+use Rattle.model.specs.Refusals.{badLive, refusal}
 use Rattle.model.specs.Days.{Event, Arrival, Cancellation, stopOf, arrives, lastArrives, Day, newDay, callMade, argumentsOf, next, nextAll, planOf, WithinLimits}
 use Rattle.model.proofs.Lists.{Tested, tested, count-member}
 use Rattle.model.proofs.Counts.{concat-empty, below-allBelow}
-use Rattle.model.proofs.PlanForm.{concat-decode, decode-encode, lent-encode, lent-isPlan, lent-length}
+use Rattle.model.proofs.PlanForm.{concat-decode, decode-encode, lent-encode, lent-length, lent-4, lent-11}
 use Rattle.model.proofs.Live.{arrived-routes, arrived-once, arrived-other, cancelled-routes, cancelled-once}
 use Rattle.stop_set.proofs.Digits.{bit-zero, bit-suc, bit-including-same, bit-including-other, bit-excluding-same, bit-excluding-other}
 use Rattle.stop_set.proofs.Laws.{member-contains, stops-small}
@@ -99,14 +99,6 @@ module _ (J : Job) where
         }
 
     -- none of 4 and 11 applies
-    kept-long : badLength (vehicleCount J) (stopCount J) (D .plan) ≡ false
-    unfolding badLength
-    kept-long = rw (eq-eqb (length (D .plan)) (vehicleCount J + stopCount J) (K .lent .long))
-
-    kept-form : badPlan (vehicleCount J) (stopCount J) (D .plan) ≡ false
-    unfolding badPlan
-    kept-form = rw (lent-isPlan (vehicleCount J) (stopCount J) (D .plan) (K .lent))
-
     kept-set : badLive (vehicleCount J) (stopCount J) (D .live) (D .plan) ≡ false
     unfolding badLive
     kept-set =
@@ -115,7 +107,8 @@ module _ (J : Job) where
 
     -- so its own stop alone
     pub kept-refusal : WithinLimits J → (e : Event) → refusal (callMade e) (argumentsOf J D e) ≡ ownRefusal e (stopCount J) (contains (stopOf e) (D .live))
-    kept-refusal W e = refusal-own J D W kept-long kept-set kept-form e
+    kept-refusal W e =
+        refusal-own J D W (lent-4 (vehicleCount J) (stopCount J) (D .plan) (K .lent)) kept-set (lent-11 (vehicleCount J) (stopCount J) (D .plan) (K .lent)) e
 
   -- ---- what an event leaves
 

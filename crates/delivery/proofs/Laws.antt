@@ -13,7 +13,7 @@ use Rattle.model.specs.Whole.{whole, exact, amount, IsWhole}
 use Rattle.model.specs.Job.{Job}
 use Rattle.model.specs.Plan.{Plan, Route, routeOf, placed, decode, Sizes}
 use Rattle.model.specs.Legs.{depot, LegTable, Affordable, Fits}
-use Rattle.model.specs.Cost.{price, routeLength, drivingFrom, drivingCost, missedCost, cost}
+use Rattle.model.specs.Cost.{price, routeLength, routePrice, drivingFrom, drivingCost, missedCost, cost}
 use Rattle.model.specs.declared.Prices.{Prices}
 use Rattle.model.proofs.Lists.{count-append}
 use Rattle.model.proofs.Counts.{count-route, once-few, length-le}
@@ -22,7 +22,7 @@ use Rattle.model.proofs.PlanForm.{lent-length, lent-placed}
 use Rattle.whole.proofs.Laws.{add-whole, mul-whole, amount-is}
 use Rattle.distance.specs.Ways.{tableLegs, Below, Drivable}
 use Rattle.distance.proofs.Laws.{way-small, way-route}
-use Rattle.delivery.specs.Costs.{tableDriving, tableCost, Ready, Drives, Costs}
+use Rattle.delivery.specs.Costs.{tablePrice, tableDriving, tableCost, Ready, Drives, Costs}
 
 -- ---- the price of one length
 
@@ -139,16 +139,18 @@ below-parts : (n : ℕ) (r : Route) (P : Plan) → Below n (r ++ concat P) → B
 below-parts n r P h = (λ s g. h s (omega (arith, count-append s r (concat P))), λ s g. h s (omega (arith, count-append s r (concat P))))
 
 module _ (J : Job) (t : List ℕ) (v n : ℕ) (p : Prices) (F : Fits J t v n p) where
+  -- the route of one vehicle
+  pub table-price : (k : ℕ) (r : Route) → k < v → Below n r → Below 64 r → tablePrice t p k r ≡ routePrice J k r
+  table-price k r h N S =
+      ap (price p) (way-route J t v n p F k r h N S) ∙ ap (λ (q : Prices). price q (routeLength J k r)) (sym (F .prices))
+
   driving-job : (k : ℕ) (P : Plan) → k + length P ≤ v → Below n (concat P) → Below 64 (concat P) → tableDriving t p k P ≡ drivingFrom J k P
   unfolding tableDriving
   driving-job k [] h N S = sym (driving-nil J k)
   driving-job k (r ∷ P) h N S =
       let N' = below-parts n r P N in
       let S' = below-parts 64 r P S in
-      ap₂ _+_
-      (ap (price p) (way-route J t v n p F k r (omega arith) (N' .0) (S' .0)) ∙ ap (λ (q : Prices). price q (routeLength J k r)) (sym (F .prices)))
-      (driving-job (suc k) P (omega arith) (N' .1) (S' .1))
-      ∙ sym (driving-cons J k r P)
+      ap₂ _+_ (table-price k r (omega arith) (N' .0) (S' .0)) (driving-job (suc k) P (omega arith) (N' .1) (S' .1)) ∙ sym (driving-cons J k r P)
 
   module _ (P : Plan) (few : length P ≤ v) (N : Below n (concat P)) (S : Below 64 (concat P)) where
     pub table-driving : tableDriving t p 0 P ≡ drivingCost J P

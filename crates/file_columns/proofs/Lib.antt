@@ -1,3 +1,4 @@
 pub mod Leads
 pub mod Numbers
 pub mod Puts
+pub mod Signs

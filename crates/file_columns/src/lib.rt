@@ -1,9 +1,11 @@
 // Numbers in columns: reading the fields of a job file, and writing what the program prints.
 ghost use mathlib.Core.Path.{_≡_};
-ghost use Prim.Native.Nat.{_<_, _^_};
+ghost use Prim.Native.Nat.{_+_, _<_, _≤_, _^_};
+ghost use mathlib.Core.List.{_∷_};
+ghost use lib.ListN.{length};
 ghost use Rattle.file_columns.specs.Field.{Next, FieldAt, NumberAt, lastColumn};
 ghost use Rattle.file_columns.specs.Put.{written, Puttable};
-ghost use Rattle.model.specs.File.{columns};
+ghost use Rattle.model.specs.File.{dash, digits, justified, columns, signedColumns};
 
 // What a field of 14 columns holds.
 pub enum Field {
@@ -105,4 +107,38 @@ pub fn put_number(out: &mut [u8], at: usize, width: usize, n: u64)
         out[at + i] = lead_column(rest);
         rest = rest / 10;
     }
+}
+
+// How many digits a number has.
+fn digit_count(n: u64) -> usize
+    ensures { λ r. ⌜ r ≡ length (digits n) ⌝ }
+{
+    let mut count: usize = 1;
+    let mut rest = n;
+    while 9 < rest {
+        rest = rest / 10;
+        count += 1;
+    }
+    count
+}
+
+// A negative number, by its magnitude, right-justified in 20 columns from a position on.
+fn put_negative(out: &mut [u8], at: usize, n: u64)
+    requires { ⌜ (at + 20 ≤ length (now out)) × (n < 10 ^ 19) ⌝ }
+    ensures { λ _. ⌜ now (out .exit) ≡ written (now (out .entry)) at (justified 20 (dash ∷ digits n)) ⌝ }
+{
+    put_number(out, at, 20, n);
+    out[at + (19 - digit_count(n))] = b'-';
+}
+
+// A number with its sign, right-justified in 20 columns from a position on: `-` before the digits of a negative one.
+pub fn put_signed(out: &mut [u8], at: usize, z: i64)
+    requires { ⌜ at + 20 ≤ length (now out) ⌝ }
+    ensures { λ _. ⌜ now (out .exit) ≡ written (now (out .entry)) at (signedColumns 20 z) ⌝ }
+{
+    if z < 0 {
+        put_negative(out, at, (-1 - z) as u64 + 1);
+        return;
+    }
+    put_number(out, at, 20, z as u64);
 }

@@ -14,7 +14,7 @@ use borrow.Author.Tests.{eqb-true, eq-eqb, ltb-true, lt-ltb, not-true}
 use Rattle.model.specs.Lists.{concat, change, part, upFrom, member, without, position, count, Once, allBelow, allOnce, same}
 use Rattle.model.specs.Plan.{Plan, Route, routeOf, placed}
 use Rattle.model.specs.TwoOpt.{setRoute}
-use Rattle.model.proofs.Lists.{Tested, tested, one-same, one-other, count-member, absent-count, count-absent, count-append, count-at, position-lt, getD-position, position-of, part-split, getD-reverse, getD-change-other, length-change, length-without, count-without, without-absent, length-upFrom, count-upFrom}
+use Rattle.model.proofs.Lists.{Tested, tested, one-same, one-other, count-member, absent-count, count-absent, count-append, count-at, position-lt, getD-position, position-of, part-split, getD-reverse, getD-change-other, length-change, length-without, count-without, without-absent, length-upFrom, count-upFrom, count-upFrom-out}
 
 -- ---- of the parts of a list
 
@@ -146,6 +146,9 @@ length-kept xs ys h = omega (arith, length-le xs ys (λ x. omega (arith, h x)), 
 -- every number of a list is below n
 abbrev pub Below : ℕ → List ℕ → Type 0
 Below n xs = (s : ℕ) → 1 ≤ count s xs → s < n
+
+pub upFrom-below : (n : ℕ) → Below n (upFrom 0 n)
+upFrom-below n s k = elim (decLt s n) [ yes l ↦ l | no f ↦ absurd (omega (arith, count-upFrom-out s 0 n (inr (omega arith)))) ]
 
 pub below-at : (n : ℕ) (xs : List ℕ) (i : ℕ) → Below n xs → i < length xs → getD xs i 0 < n
 below-at n xs i b h = b (getD xs i 0) (count-at xs i h)

@@ -1,5 +1,5 @@
--- Arrivals and cancellations on tiny jobs, most of them Job A, computed from the definitions. The answers were found by a separate program that has
--- no part of these definitions.
+-- Arrivals and cancellations on tiny jobs, most of them Job A, computed from the definitions. What each has to be was found without them, by hand or by a
+-- small program.
 use mathlib.Core.Path.{_≡_, refl}
 use Prim.Native.Nat.{ℕ}
 use mathlib.Core.List.{List, [], _∷_, _++_}
@@ -20,7 +20,7 @@ unfolding computed stopsFrom liveCost arrived cancelled newLive liveAnswer saidB
 dayComputed = tt
 
 -- Job A with other vehicles, another table and another missed price
-abbrev tiny : List ℕ → List ℕ → ℕ → Job
+abbrev pub tiny : List ℕ → List ℕ → ℕ → Job
 tiny vehicles distances missed =
     record {
       vehicles = vehicles;
@@ -30,7 +30,7 @@ tiny vehicles distances missed =
       prices = record { linear = 1; quadratic = 0; missed = missed };
     }
 
-abbrev tableA : List ℕ
+abbrev pub tableA : List ℕ
 tableA = jobA 1 0 .distances
 
 abbrev flat : List ℕ
@@ -60,10 +60,10 @@ none = 0 ∷ unused ∷ unused ∷ []
 abbrev only0 : List ℕ
 only0 = 1 ∷ 0 ∷ unused ∷ []
 
-abbrev only1 : List ℕ
+abbrev pub only1 : List ℕ
 only1 = 1 ∷ 1 ∷ unused ∷ []
 
-abbrev both : List ℕ
+abbrev pub both : List ℕ
 both = 2 ∷ 1 ∷ 0 ∷ []
 
 abbrev events : List Event

@@ -23,6 +23,8 @@ pub mod Columns
 pub mod Pieces
 pub mod Live
 pub mod Placings
+pub mod Vans
+pub mod VansA
 pub mod Runs
 pub mod Promised
 pub mod Tasks

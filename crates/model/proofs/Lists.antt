@@ -165,6 +165,12 @@ module _ {A : Type 0} where
   change-none zero f (x ∷ xs) d e = rw e
   change-none (suc k) f (x ∷ xs) d e = rw (change-none k f xs d e)
 
+  -- a place past the end
+  pub change-out : (k : ℕ) (f : A → A) (xs : List A) → length xs ≤ k → change k f xs ≡ xs
+  change-out k f [] h = refl
+  change-out zero f (x ∷ xs) h = absurd (omega arith)
+  change-out (suc k) f (x ∷ xs) h = rw (change-out k f xs (le-of-suc-le-suc h))
+
 module _ {A B : Type 0} where
   pub map-change : (h : A → B) (k : ℕ) (f : A → A) (g : B → B) (xs : List A) → ((x : A) → h (f x) ≡ g (h x)) → map h (change k f xs) ≡ change k g (map h xs)
   map-change h k f g [] e = refl

@@ -7,12 +7,12 @@ use mathlib.Core.Path.{_≡_, refl, sym, _∙_}
 use mathlib.Core.Bool.{Bool, true, false, cond, _||_, true≢false}
 use mathlib.Core.List.{[], _∷_}
 use lib.Dec.{ltb, leb·suc-suc}
-use lib.ListN.{length}
+use lib.ListN.{length, getD}
 use borrow.Author.Tests.{ltb-true, ltb-false, lt-ltb}
 use Rattle.model.specs.Lists.{concat, member, position, count, Once}
 use Rattle.model.specs.Plan.{Plan, routeOf, vehicleOf, isPlaced}
-use Rattle.model.proofs.Lists.{member-append, member-count, count-member, count-append, position-lt}
-use Rattle.model.proofs.Counts.{count-route}
+use Rattle.model.proofs.Lists.{member-append, member-at, member-count, count-member, count-append, position-lt, position-of}
+use Rattle.model.proofs.Counts.{count-route, once-route}
 
 located-is : (s : ℕ) (P : Plan) → isPlaced s P ≡ ltb (vehicleOf s P) (length P)
 located-is s [] = refl
@@ -87,3 +87,10 @@ vehicle-only s P k o m = go (decLt k (vehicleOf s P)) (decLt (vehicleOf s P) k)
         let on : isPlaced s P ≡ true = route-placed s P k m in
         absurd (omega (arith, two-routes s P (vehicleOf s P) k g (member-count s (routeOf P (vehicleOf s P)) (vehicle-has s P on)) (member-count s (routeOf P k) m), o s))
     go (no h) (no g) = omega arith
+
+-- so a place of a plan is that of its stop
+pub stop-found : (s : ℕ) (P : Plan) (k i : ℕ) → Once (concat P) → i < length (routeOf P k) → getD (routeOf P k) i 0 ≡ s
+    → (vehicleOf s P ≡ k) × (position s (routeOf P k) ≡ i)
+stop-found s P k i o h e =
+    let m : member s (routeOf P k) ≡ true = rw e at (member-at (routeOf P k) i h) in
+    (vehicle-only s P k o m, position-of s (routeOf P k) i (once-route P k o) h e)

@@ -3,14 +3,15 @@ use Prim.Native.Nat.{ℕ, zero, suc, _+_, _-_, _<_, _≤_}
 use native.Mathlib.Omega.{arith}
 use native.Mathlib.Nat.{le-of-suc-le-suc, add-sub-cancel-left}
 use mathlib.Core.Path.{_≡_, refl, sym, ap, _∙_}
-use mathlib.Core.Bool.{true, and-eq-true-iff}
+use mathlib.Core.Bool.{true, false, and-eq-true-iff}
 use mathlib.Core.List.{List, [], _∷_, _++_, map, append-assoc}
 use lib.Dec.{leb}
 use lib.ListN.{length, getD, take, drop, replicate, length-append, length-replicate, length-map, length-drop, length-take, take-append-drop}
 use lib.Seq.{take-append-seam, drop-append-seam, take-at, drop-at, take-add, take-take, take-append-le, drop-drop, getD-take, length-take-le, take-all}
-use borrow.Author.Tests.{leb-true, le-leb}
+use borrow.Author.Tests.{eq-eqb, leb-true, le-leb}
 use Rattle.model.specs.Lists.{sum, concat, part, count, Once, allBelow, allOnce}
 use Rattle.model.specs.Plan.{Plan, routeOf, placed, unused, encode, cut, decode, usedPart, unusedPart, isForm, isPlan, Lent}
+use Rattle.model.specs.Refusals.{badLength, badPlan}
 use Rattle.model.proofs.Lists.{sum-upto, sum-lengths, map-take, length-part}
 use Rattle.model.proofs.Counts.{Below, once-few, allOnce-once, once-allOnce, allBelow-below, below-allBelow, same-equal, equal-same}
 
@@ -172,6 +173,15 @@ module _ (v n : ℕ) (xs : List ℕ) (p : Lent v n xs) where
   lent-isPlan =
       let o : Once (usedPart v xs) = rw concat-decode at (p .once) in
       and-eq-true-iff (isForm v n xs) _ .1 (lent-isForm, once-allOnce (usedPart v xs) o)
+
+  -- so it is refused neither as 4 nor as 11
+  pub lent-4 : badLength v n xs ≡ false
+  unfolding badLength
+  lent-4 = rw (eq-eqb (length xs) (v + n) (p .long))
+
+  pub lent-11 : badPlan v n xs ≡ false
+  unfolding badPlan
+  lent-11 = rw lent-isPlan
 
   pub lent-length : length (decode v xs) ≡ v
   lent-length = length-decode v xs (omega (arith, p .long))

@@ -4,6 +4,7 @@ use Prim.Native.Nat.{ℕ, zero, suc, _+_}
 use mathlib.Core.Bool.{Bool, true, false, cond, _&&_, _||_, not}
 use mathlib.Core.List.{List, [], _∷_}
 use lib.Dec.{leb}
+use lib.IntN.{ℤ}
 use lib.ListN.{length, getD, replicate}
 use Rattle.model.specs.declared.Totals.{Totals}
 use Rattle.model.specs.declared.Weighed.{Weighed}
@@ -14,6 +15,10 @@ use Rattle.model.specs.declared.Solved.{Solved}
 use Rattle.model.specs.declared.Solved.the-variants as S
 use Rattle.model.specs.declared.Changed.{Changed}
 use Rattle.model.specs.declared.Changed.the-variants as C
+use Rattle.model.specs.declared.Viewed.{Viewed}
+use Rattle.model.specs.declared.Viewed.the-variants as Seen
+use Rattle.model.specs.declared.Moved.{Moved}
+use Rattle.model.specs.declared.Moved.the-variants as M
 use Rattle.model.specs.Whole.{whole, amount}
 use Rattle.model.specs.Job.{Job, vehicleCount, stopCount}
 use Rattle.model.specs.Plan.{Plan, encode, decode}
@@ -24,7 +29,8 @@ use Rattle.model.specs.Rebuild.{rebuild, exhaustive, pruned}
 use Rattle.model.specs.Run.{Task, taskFor, State, Round, startState, rounds, lastState, ends}
 use Rattle.model.specs.StopSet.{including, excluding}
 use Rattle.model.specs.Live.{liveCost, arrived, cancelled}
-use Rattle.model.specs.Refusals.{Arguments, running, stopGiven, liveSet, Call, Weigh, StartPlan, TwoOpt, Rebuild, Exhaustive, Pruned, Solve, Arrive, Cancel, refusal}
+use Rattle.model.specs.Vans.{unplacedSet, view, moved, costChange}
+use Rattle.model.specs.Refusals.{Arguments, running, stopGiven, liveSet, moveGiven, seenGiven, Call, Weigh, StartPlan, TwoOpt, Rebuild, Exhaustive, Pruned, Solve, Arrive, Cancel, View, MoveStop, refusal}
 
 -- ---- a run
 
@@ -83,6 +89,8 @@ made Pruned A = pruned (A .job)
 made Solve A = finalState (taskOf A) .plan
 made Arrive A = arrived (A .job) (liveSet A) (stopGiven A) (lentPlan A)
 made Cancel A = cancelled (stopGiven A) (lentPlan A)
+made View A = lentPlan A
+made MoveStop A = moved (moveGiven A) (lentPlan A)
 
 -- the live set after an accepted call: an arrival puts its stop in, a cancellation takes it out, and the others leave it
 unfoldable pub newLive : Call → Arguments → ℕ
@@ -95,6 +103,8 @@ newLive Pruned A = liveSet A
 newLive Solve A = liveSet A
 newLive Arrive A = including (stopGiven A) (liveSet A)
 newLive Cancel A = excluding (stopGiven A) (liveSet A)
+newLive View A = liveSet A
+newLive MoveStop A = liveSet A
 
 -- refused (by a number above 0): as it was lent; accepted: the lent form of the new plan
 abbrev pub leftBy : ℕ → Arguments → Plan → List ℕ
@@ -104,6 +114,17 @@ leftBy (suc k) A P = A .plan
 -- the lent plan at exit
 unfoldable pub planLeft : Call → Arguments → List ℕ
 planLeft c A = leftBy (refusal c A) A (made c A)
+
+-- ---- the list that a view is written to
+
+-- refused (by a number above 0): as it was lent; accepted: the lent form of what is seen
+abbrev pub seenBy : ℕ → Arguments → Plan → List ℕ
+seenBy zero A P = encode (stopCount (A .job)) P
+seenBy (suc k) A P = seenGiven A
+
+-- that list at exit
+unfoldable pub seenLeft : Arguments → List ℕ
+seenLeft A = seenBy (refusal View A) A (view (A .vans) (lentPlan A))
 
 -- ---- the answers
 
@@ -123,6 +144,14 @@ abbrev pub changed : ℕ → ℕ → ℕ → Changed
 changed zero live c = C.Stands (record { live = live; cost = whole c })
 changed (suc k) live c = C.Refused (suc k)
 
+abbrev pub viewed : ℕ → ℕ → Viewed
+viewed zero set = Seen.Unplaced set
+viewed (suc k) set = Seen.Refused (suc k)
+
+abbrev pub carried : ℕ → ℤ → Moved
+carried zero z = M.Change z
+carried (suc k) z = M.Refused (suc k)
+
 -- of weigh, two_opt, rebuild, exhaustive and pruned: the cost of the plan that is left
 unfoldable pub costAnswer : Call → Arguments → Weighed
 costAnswer c A = weighed (refusal c A) (cost (A .job) (made c A))
@@ -138,6 +167,14 @@ solveAnswer A = solved (refusal Solve A) (totals (taskOf A))
 -- of arrive and cancel: the new live set, and the cost of the plan that is left while those stops are live
 unfoldable pub liveAnswer : Call → Arguments → Changed
 liveAnswer c A = changed (refusal c A) (newLive c A) (liveCost (A .job) (newLive c A) (made c A))
+
+-- of view: the set of unplaced stops
+unfoldable pub viewAnswer : Arguments → Viewed
+viewAnswer A = viewed (refusal View A) (unplacedSet (stopCount (A .job)) (lentPlan A))
+
+-- of move_stop: the change in cost of the caller's vans and of the missed part
+unfoldable pub moveAnswer : Arguments → Moved
+moveAnswer A = carried (refusal MoveStop A) (costChange (A .job) (A .vans) (moveGiven A) (lentPlan A))
 
 -- ---- the number and the values for each case of an answer: 0 where it is accepted, and then its values
 
@@ -164,6 +201,21 @@ unfoldable pub saidByChanged : Changed → Said
 saidByChanged (C.Refused k) = record { number = k; values = [] }
 saidByChanged (C.Stands t) = record { number = 0; values = t .live ∷ amount (t .cost) ∷ [] }
 
+-- the set of unplaced stops
+unfoldable pub saidByViewed : Viewed → Said
+saidByViewed (Seen.Refused k) = record { number = k; values = [] }
+saidByViewed (Seen.Unplaced set) = record { number = 0; values = set ∷ [] }
+
+-- the same with values that have a sign
+pub record SignedSaid : Type 0 where
+  pub number : ℕ
+  pub values : List ℤ
+
+-- the change
+unfoldable pub saidByMoved : Moved → SignedSaid
+saidByMoved (M.Refused k) = record { number = k; values = [] }
+saidByMoved (M.Change z) = record { number = 0; values = z ∷ [] }
+
 -- ---- the number and values that a call has to say, in whole numbers
 
 -- refused (by a number above 0): the number alone; accepted: 0 and the values
@@ -179,6 +231,16 @@ startSaid A = saying (refusal StartPlan A) []
 
 unfoldable pub liveSaid : Call → Arguments → Said
 liveSaid c A = saying (refusal c A) (newLive c A ∷ liveCost (A .job) (newLive c A) (made c A) ∷ [])
+
+unfoldable pub viewSaid : Arguments → Said
+viewSaid A = saying (refusal View A) (unplacedSet (stopCount (A .job)) (lentPlan A) ∷ [])
+
+abbrev pub signedSaying : ℕ → List ℤ → SignedSaid
+signedSaying zero values = record { number = 0; values = values }
+signedSaying (suc k) values = record { number = suc k; values = [] }
+
+unfoldable pub moveSaid : Arguments → SignedSaid
+moveSaid A = signedSaying (refusal MoveStop A) (costChange (A .job) (A .vans) (moveGiven A) (lentPlan A) ∷ [])
 
 -- of a run of these rounds that leaves the plan P
 abbrev pub runValues : Task → List Round → Plan → List ℕ
@@ -209,3 +271,15 @@ pub record Changes (c : Call) (A : Arguments) (r : Changed) (left : List ℕ) : 
   pub answer : r ≡ liveAnswer c A
   pub said : saidByChanged r ≡ liveSaid c A
   pub plan : left ≡ planLeft c A
+
+-- view; `seen` is the list that it is written to, at exit
+pub record Views (A : Arguments) (r : Viewed) (seen : List ℕ) : Type 0 where
+  pub answer : r ≡ viewAnswer A
+  pub said : saidByViewed r ≡ viewSaid A
+  pub list : seen ≡ seenLeft A
+
+-- move_stop
+pub record Moves (A : Arguments) (r : Moved) (left : List ℕ) : Type 0 where
+  pub answer : r ≡ moveAnswer A
+  pub said : saidByMoved r ≡ moveSaid A
+  pub plan : left ≡ planLeft MoveStop A

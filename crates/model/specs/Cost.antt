@@ -19,6 +19,15 @@ routeLength J k r = legs J (startOf J k) r (endOf J k)
 unfoldable pub price : Prices → ℕ → ℕ
 price p d = d * p .linear + d * d * p .quadratic
 
+-- what the route of vehicle k costs
+abbrev pub routePrice : Job → ℕ → Route → ℕ
+routePrice J k r = price (J .prices) (routeLength J k r)
+
+-- what f gives for each route, added up; the first route is that of vehicle k
+abbrev pub overRoutes : (ℕ → Route → ℕ) → ℕ → Plan → ℕ
+overRoutes f k [] = 0
+overRoutes f k (r ∷ P) = f k r + overRoutes f (suc k) P
+
 -- the routes of a plan, which are those of the vehicles from k on
 unfoldable pub drivingFrom : Job → ℕ → Plan → ℕ
 unfolding routeLength price

@@ -4,6 +4,7 @@ use Prim.Native.Nat.{ℕ, zero, suc, _+_, _-_, _*_, _/_, _%_, _^_, _≤_, _<_}
 use mathlib.Core.Bool.{cond}
 use mathlib.Core.List.{List, [], _∷_, _++_}
 use lib.Dec.{ltb}
+use lib.IntN.{ℤ, pos, negsuc}
 use lib.ListN.{length, getD, take, drop, replicate}
 use Rattle.model.specs.declared.Solved.{Solved}
 use Rattle.model.specs.declared.Solved.the-variants.{Refused, Ran}
@@ -48,6 +49,15 @@ justified w xs = replicate (w - length xs) space ++ xs
 -- a number in w columns
 unfoldable pub columns : ℕ → ℕ → List ℕ
 columns w n = justified w (digits n)
+
+-- the digits of a whole number with its sign: `-` before those of a negative one
+abbrev pub signedDigits : ℤ → List ℕ
+signedDigits (pos n) = digits n
+signedDigits (negsuc n) = dash ∷ digits (suc n)
+
+-- such a number in w columns
+unfoldable pub signedColumns : ℕ → ℤ → List ℕ
+signedColumns w z = justified w (signedDigits z)
 
 -- the number n with the digits of some more bytes at its end, where a space counts as 0
 abbrev pub readOn : ℕ → List ℕ → ℕ

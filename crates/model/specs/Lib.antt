@@ -14,9 +14,11 @@ pub mod Rebuild
 pub mod Settle
 pub mod Run
 pub mod Live
+pub mod Vans
 pub mod Refusals
 pub mod Calls
 pub mod File
 pub mod Promise
 pub mod Days
+pub mod Studios
 pub mod Sums

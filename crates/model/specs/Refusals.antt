@@ -7,9 +7,10 @@ use lib.Dec.{eqb, ltb, leb}
 use lib.ListN.{length, getD}
 use Rattle.model.specs.declared.Prices.{Prices}
 use Rattle.model.specs.Lists.{member, allBelow, allOnce}
-use Rattle.model.specs.Job.{Job, vehicleCount, stopCount}
-use Rattle.model.specs.Plan.{usedPart, isPlan}
+use Rattle.model.specs.Job.{Job, jobOf, vehicleCount, stopCount}
+use Rattle.model.specs.Plan.{Plan, decode, usedPart, isPlan}
 use Rattle.model.specs.StopSet.{contains, stopsOf}
+use Rattle.model.specs.Vans.{Move, moveTo, badVans, badMove}
 
 -- What a call is given. Where a call has no such argument the list is empty or the number 0, and the call does not test it.
 pub record Arguments : Type 0 where
@@ -20,14 +21,17 @@ pub record Arguments : Type 0 where
   pub draws : List ℕ
   pub given : List ℕ
   pub live : List ℕ
+  pub vans : ℕ
+  pub moves : List Move
+  pub seen : List (List ℕ)
 
 -- the arguments of a call that runs no rounds
 abbrev pub asking : Job → List ℕ → List ℕ → Arguments
-asking J plan given = record { job = J; plan = plan; smoothing = 0; limit = 0; draws = []; given = given; live = [] }
+asking J plan given = record { job = J; plan = plan; smoothing = 0; limit = 0; draws = []; given = given; live = []; vans = 0; moves = []; seen = [] }
 
 -- the arguments of a call that has a set of live stops, with the stop that it adds or cancels
 abbrev pub naming : Job → List ℕ → ℕ → ℕ → Arguments
-naming J plan live s = record { job = J; plan = plan; smoothing = 0; limit = 0; draws = []; given = s ∷ []; live = live ∷ [] }
+naming J plan live s = record { job = J; plan = plan; smoothing = 0; limit = 0; draws = []; given = s ∷ []; live = live ∷ []; vans = 0; moves = []; seen = [] }
 
 -- that stop
 abbrev pub stopGiven : Arguments → ℕ
@@ -40,11 +44,33 @@ liveSet A = getD (A .live) 0 0
 -- the arguments of a run
 abbrev pub running : Job → ℕ → ℕ → List ℕ → List ℕ → Arguments
 running J smoothing limit draws plan =
-    record { job = J; plan = plan; smoothing = smoothing; limit = limit; draws = draws; given = []; live = [] }
+    record { job = J; plan = plan; smoothing = smoothing; limit = limit; draws = draws; given = []; live = []; vans = 0; moves = []; seen = [] }
 
 -- what stands for the prices in a call that knows none
 abbrev pub unpriced : Prices
 unpriced = record { linear = 0; quadratic = 0; missed = 0 }
+
+-- a job of which a call knows the vehicles and the stops alone
+abbrev pub tableless : List ℕ → List ℕ → Job
+tableless vs ss = jobOf vs ss 0 [] unpriced
+
+-- the arguments of a view by a caller who holds a set of vans: the last is the list that it is written to
+abbrev pub looking : Job → List ℕ → ℕ → List ℕ → Arguments
+looking J plan vans seen =
+    record { job = J; plan = plan; smoothing = 0; limit = 0; draws = []; given = []; live = []; vans = vans; moves = []; seen = seen ∷ [] }
+
+-- that list
+abbrev pub seenGiven : Arguments → List ℕ
+seenGiven A = getD (A .seen) 0 []
+
+-- the arguments of a move by such a caller
+abbrev pub moving : Job → List ℕ → ℕ → Move → Arguments
+moving J plan vans m =
+    record { job = J; plan = plan; smoothing = 0; limit = 0; draws = []; given = m .stop ∷ []; live = []; vans = vans; moves = m ∷ []; seen = [] }
+
+-- that move
+abbrev pub moveGiven : Arguments → Move
+moveGiven A = getD (A .moves) 0 (moveTo 0 0 0)
 
 -- the public calls
 pub data Call : Type 0 where
@@ -57,6 +83,8 @@ pub data Call : Type 0 where
   Solve : Call
   Arrive : Call
   Cancel : Call
+  View : Call
+  MoveStop : Call
 
 -- x is from a to b
 abbrev pub within : ℕ → ℕ → ℕ → Bool
@@ -79,6 +107,18 @@ badTable l ds = ltb 80 l || not (eqb (length ds) (l * l))
 -- 4: plan not v + n long
 unfoldable pub badLength : ℕ → ℕ → List ℕ → Bool
 badLength v n plan = not (eqb (length plan) (v + n))
+
+-- 4, of the list that a view is written to, where a call has one: not v + n long
+abbrev pub badSeen : ℕ → ℕ → List (List ℕ) → Bool
+badSeen v n [] = false
+badSeen v n (seen ∷ none) = badLength v n seen
+
+-- 4 whole: of that list, where a call has one, or of the plan
+abbrev pub badLengths : Arguments → Bool
+badLengths A =
+    let v = vehicleCount (A .job) in
+    let n = stopCount (A .job) in
+    badSeen v n (A .seen) || badLength v n (A .plan)
 
 -- 5: draw list outside 1 to 1,024
 unfoldable pub badDraws : List ℕ → Bool
@@ -133,6 +173,17 @@ badLent A =
 unfoldable pub badGiven : ℕ → List ℕ → Bool
 badGiven n given = not (allBelow n given && (allOnce given && within 1 2 (length given)))
 
+-- 15, of a move, where a call has one
+abbrev pub badMoves : ℕ → List Move → Plan → Bool
+badMoves vans [] P = false
+badMoves vans (m ∷ none) P = badMove vans m P
+
+-- 15 whole: the set of vans names one not below v, or the move is not the caller's to make
+abbrev pub badForCaller : Arguments → Bool
+badForCaller A =
+    let v = vehicleCount (A .job) in
+    badVans v (A .vans) || badMoves (A .vans) (A .moves) (decode v (A .plan))
+
 -- 16: arrival of a stop that is already live
 unfoldable pub badArrival : ℕ → ℕ → Bool
 badArrival live s = contains s live
@@ -157,7 +208,7 @@ tests =
     record { number = 1; applies = λ A. badVehicles (A .job .vehicles) }
     ∷ record { number = 2; applies = λ A. badStops (A .job .stops) }
     ∷ record { number = 3; applies = λ A. badTable (A .job .locations) (A .job .distances) }
-    ∷ record { number = 4; applies = λ A. badLength (vehicleCount (A .job)) (stopCount (A .job)) (A .plan) }
+    ∷ record { number = 4; applies = badLengths }
     ∷ record { number = 5; applies = λ A. badDraws (A .draws) }
     ∷ record { number = 6; applies = λ A. badLocations (A .job .vehicles) (A .job .stops) (A .job .locations) }
     ∷ record { number = 7; applies = λ A. badDistances (A .job .distances) }
@@ -166,6 +217,7 @@ tests =
     ∷ record { number = 10; applies = λ A. badLimit (A .limit) }
     ∷ record { number = 11; applies = badLent }
     ∷ record { number = 12; applies = λ A. badGiven (stopCount (A .job)) (A .given) }
+    ∷ record { number = 15; applies = badForCaller }
     ∷ record { number = 16; applies = λ A. badArrival (liveSet A) (stopGiven A) }
     ∷ record { number = 17; applies = λ A. badCancellation (liveSet A) (stopGiven A) }
     ∷ record { number = 13; applies = λ A. tooLarge (vehicleCount (A .job)) (stopCount (A .job)) }
@@ -182,6 +234,8 @@ asked Pruned = 1 ∷ 2 ∷ 3 ∷ 4 ∷ 6 ∷ 7 ∷ 8 ∷ 13 ∷ []
 asked Solve = 1 ∷ 2 ∷ 3 ∷ 4 ∷ 5 ∷ 6 ∷ 7 ∷ 8 ∷ 9 ∷ 10 ∷ []
 asked Arrive = 1 ∷ 2 ∷ 3 ∷ 4 ∷ 6 ∷ 7 ∷ 8 ∷ 11 ∷ 12 ∷ 16 ∷ []
 asked Cancel = 1 ∷ 2 ∷ 3 ∷ 4 ∷ 6 ∷ 7 ∷ 8 ∷ 11 ∷ 12 ∷ 17 ∷ []
+asked View = 1 ∷ 2 ∷ 4 ∷ 11 ∷ 15 ∷ []
+asked MoveStop = 1 ∷ 2 ∷ 3 ∷ 4 ∷ 6 ∷ 7 ∷ 8 ∷ 11 ∷ 12 ∷ 15 ∷ []
 
 -- the first of some tests that the call makes and that applies; 0 where there is none
 abbrev pub firstOf : Call → Arguments → List Test → ℕ

@@ -33,3 +33,8 @@ stopsFrom (suc d) s set = consIf (set % 2) s (stopsFrom d (suc s) (set / 2))
 -- the stops of a set, lowest first
 abbrev pub stopsOf : ℕ → List ℕ
 stopsOf set = stopsFrom 64 0 set
+
+-- the set of the stops of a list
+abbrev pub setOf : List ℕ → ℕ
+setOf [] = 0
+setOf (s ∷ ss) = including s (setOf ss)

@@ -59,3 +59,15 @@ pub enum Changed {
     Refused(u32),
     Stands(Standing),
 }
+
+// The answer of a view: the set of unplaced stops.
+pub enum Viewed {
+    Refused(u32),
+    Unplaced(u64),
+}
+
+// The answer of a move: the signed change in cost.
+pub enum Moved {
+    Refused(u32),
+    Change(i64),
+}

@@ -10,24 +10,18 @@ use Rattle.model.specs.Lists.{upFrom, member}
 use Rattle.model.specs.Whole.{exact}
 use Rattle.model.specs.Job.{Job, vehicleCount, stopCount}
 use Rattle.model.specs.Plan.{Plan, Route, placed}
-use Rattle.model.specs.StopSet.{including, excluding}
 use Rattle.model.specs.Cost.{cost}
-use Rattle.model.specs.Live.{liveCost, cancelled}
 use Rattle.model.specs.Rebuild.{better, choose, emptyPlan, allArrangements, exhaustive, reached, pruned}
-use Rattle.model.specs.Refusals.{Arguments, stopGiven, liveSet, Call, Weigh, StartPlan, TwoOpt, Rebuild, Exhaustive, Pruned, Solve, Arrive, Cancel, asked, refusal}
-use Rattle.model.specs.Calls.{taskOf, lentPlan, made, newLive}
+use Rattle.model.specs.Refusals.{Arguments, Call, Weigh, StartPlan, TwoOpt, Rebuild, Exhaustive, Pruned, Solve, Arrive, Cancel, View, MoveStop, asked, refusal}
+use Rattle.model.specs.Calls.{taskOf, lentPlan, made}
 use Rattle.model.proofs.Order.{better-asym, not-better, both}
 use Rattle.model.proofs.Moves.{twoOpt-le}
 use Rattle.model.proofs.Rebuilds.{rebuild-cost}
 use Rattle.model.proofs.PlanForm.{lent-length, lent-placed}
-use Rattle.model.proofs.Live.{arrived-least, cancelled-routes, cancelled-placed}
-use Rattle.delivery.proofs.Live.{live-exact}
 use Rattle.run_promise.proofs.Limits.{cost-small}
 use Rattle.run_promise.proofs.Left.{formed-exact, final-formed}
-use Rattle.call_refusals.proofs.Accepted.{listed, affordable, lent}
+use Rattle.call_refusals.proofs.Accepted.{priced-table, listed, affordable, lent}
 use Rattle.planner.proofs.Solving.{task-accepted}
-
--- ---- with every stop counted
 
 module _ (J : Job) where
   -- the choice never makes it dearer
@@ -45,7 +39,7 @@ none-placed (suc v) = none-placed v
 
 module _ (c : Call) (A : Arguments) (e : refusal c A ≡ 0) (priced : member 8 (asked c) ≡ true) where
   small : (P : Plan) → placed P + length P ≤ 80 → cost (A .job) P ≤ exact
-  small P h = cost-small (A .job) (listed c A e .limits .short) (affordable c A e priced) (listed c A e .sizes .stops) P h
+  small P h = cost-small (A .job) (listed c A e .limits (priced-table c priced) .short) (affordable c A e priced) (listed c A e .sizes .stops) P h
 
   lent-small : member 11 (asked c) ≡ true → cost (A .job) (lentPlan A) ≤ exact
   lent-small m =
@@ -57,13 +51,17 @@ module _ (c : Call) (A : Arguments) (e : refusal c A ≡ 0) (priced : member 8 (
       small (emptyPlan (A .job))
       (omega (arith, none-placed (vehicleCount (A .job)), length-replicate {A = Route} (vehicleCount (A .job)) [], listed c A e .sizes .vehicles))
 
+-- the calls that are given a set of vans, and answer no cost
+abbrev holdsVans : Call → Bool
+holdsVans c = member 15 (asked c)
+
 -- the calls that are given the live stops, and count those alone
 abbrev countsLive : Call → Bool
 countsLive c = member 16 (asked c) || member 17 (asked c)
 
 -- the calls that answer a cost, and count every stop of the job
 abbrev pub countsAll : Call → Bool
-countsAll c = member 8 (asked c) && not (countsLive c)
+countsAll c = member 8 (asked c) && not (holdsVans c || countsLive c)
 
 pub made-exact : (c : Call) (A : Arguments) → refusal c A ≡ 0 → countsAll c ≡ true → cost (A .job) (made c A) ≤ exact
 unfolding made exhaustive pruned
@@ -78,26 +76,5 @@ made-exact Pruned A e p =
 made-exact Solve A e p = formed-exact (taskOf A) (task-accepted A e) _ (final-formed (taskOf A) (task-accepted A e))
 made-exact Arrive A e p = both p refl
 made-exact Cancel A e p = both p refl
-
--- ---- while some stops are live
-
-module _ (c : Call) (A : Arguments) (e : refusal c A ≡ 0) (priced : member 8 (asked c) ≡ true) (read : member 11 (asked c) ≡ true) where
-  -- whatever stops are live, for a plan of as many routes as the lent one, with no more stops placed
-  live-small : (live : ℕ) (P : Plan) → length P ≡ length (lentPlan A) → placed P ≤ placed (lentPlan A) → liveCost (A .job) live P ≤ exact
-  live-small live P routes fewer =
-      let l = lent c A e read in
-      let z = listed c A e .sizes in
-      let few : placed P + length P ≤ 80 = omega (arith, lent-length _ _ _ l, lent-placed _ _ _ l, z .vehicles, z .stops) in
-      omega (arith, live-exact (A .job) (listed c A e .limits .short) (affordable c A e priced) live P few)
-
-pub arrival-exact : (A : Arguments) → refusal Arrive A ≡ 0 → liveCost (A .job) (newLive Arrive A) (made Arrive A) ≤ exact
-unfolding made newLive
-arrival-exact A e =
-    le-trans (arrived-least (A .job) (liveSet A) (stopGiven A) (lentPlan A) .0)
-    (live-small Arrive A e refl refl (including (stopGiven A) (liveSet A)) (lentPlan A) refl (le-refl (placed (lentPlan A))))
-
-pub cancellation-exact : (A : Arguments) → refusal Cancel A ≡ 0 → liveCost (A .job) (newLive Cancel A) (made Cancel A) ≤ exact
-unfolding made newLive
-cancellation-exact A e =
-    live-small Cancel A e refl refl (excluding (stopGiven A) (liveSet A)) (cancelled (stopGiven A) (lentPlan A))
-    (cancelled-routes (stopGiven A) (lentPlan A)) (cancelled-placed (stopGiven A) (lentPlan A) (lent Cancel A e refl .once))
+made-exact View A e p = both p refl
+made-exact MoveStop A e p = both p refl

@@ -11,20 +11,17 @@ use Rattle.model.specs.declared.Written.{Written}
 use Rattle.model.specs.declared.Written.the-variants as D
 use Rattle.model.specs.declared.Solved.{Solved}
 use Rattle.model.specs.declared.Solved.the-variants as S
-use Rattle.model.specs.declared.Changed.{Changed}
-use Rattle.model.specs.declared.Changed.the-variants as C
 use Rattle.model.specs.Whole.{whole, exact, amount}
 use Rattle.model.specs.Job.{stopCount}
 use Rattle.model.specs.Plan.{encode}
 use Rattle.model.specs.Cost.{cost}
-use Rattle.model.specs.Live.{liveCost}
 use Rattle.model.specs.Nearest.{startPlan}
 use Rattle.model.specs.Refusals.{Arguments, Call, StartPlan, Solve, refusal}
-use Rattle.model.specs.Calls.{taskOf, roundsOf, finalState, totals, made, newLive, leftBy, planLeft, weighed, written, solved, changed, costAnswer, startAnswer, solveAnswer, liveAnswer, saidByWeighed, saidByWritten, saidBySolved, saidByChanged, saying, runValues, costSaid, startSaid, solveSaid, liveSaid, Weighs, Writes, Changes}
+use Rattle.model.specs.Calls.{taskOf, roundsOf, finalState, totals, made, leftBy, planLeft, weighed, written, solved, costAnswer, startAnswer, solveAnswer, saidByWeighed, saidByWritten, saidBySolved, saying, runValues, costSaid, startSaid, solveSaid, Weighs, Writes}
 use Rattle.whole.proofs.Laws.{amount-is}
 use Rattle.run_promise.proofs.Theorem.{promise}
 use Rattle.run_promise.proofs.Left.{start-formed, formed-exact, final-formed}
-use Rattle.call_refusals.proofs.Answers.{refused, accepted, change-refused, change-accepted, left-alone, left-new, start-refused, start-accepted}
+use Rattle.call_refusals.proofs.Answers.{refused, accepted, left-alone, left-new, start-refused, start-accepted}
 use Rattle.planner.specs.Kept.{Keeps, Solves}
 use Rattle.planner.proofs.Solving.{solve-refused, solve-accepted, task-accepted}
 use Rattle.planner.proofs.Exact.{countsAll, made-exact}
@@ -48,26 +45,6 @@ module _ (c : Call) (A : Arguments) (all : countsAll c ≡ true) where
   pub weighs-accepted : (f : Float) (left : List ℕ) → refusal c A ≡ 0 → f ≡ whole (cost (A .job) (made c A))
       → left ≡ encode (stopCount (A .job)) (made c A) → Weighs c A (W.Cost f) left
   weighs-accepted f left e h k = weighs (W.Cost f) left (accepted c A f (sym e) h) (left-new c A left (sym e) k)
-
--- ---- a change of the live stops
-
-said-change : (x live k : ℕ) → (x ≡ 0 → k ≤ exact) → saidByChanged (changed x live k) ≡ saying x (live ∷ k ∷ [])
-unfolding saidByChanged
-said-change zero live k h = ap (λ n. saying 0 (live ∷ n ∷ [])) (amount-is (whole k) k (h refl) refl)
-said-change (suc x) live k h = refl
-
-module _ (c : Call) (A : Arguments) (small : refusal c A ≡ 0 → liveCost (A .job) (newLive c A) (made c A) ≤ exact) where
-  changes : (r : Changed) (left : List ℕ) → r ≡ liveAnswer c A → left ≡ planLeft c A → Changes c A r left
-  unfolding liveAnswer liveSaid
-  changes r left h k = record { answer = h; said = ap saidByChanged h ∙ said-change (refusal c A) _ _ small; plan = k }
-
-  pub changes-refused : (x : ℕ) → x ≡ refusal c A → (x ≡ 0 → ⊥) → Changes c A (C.Refused x) (A .plan)
-  changes-refused x e h = changes (C.Refused x) (A .plan) (change-refused c A x e h) (left-alone c A x e h)
-
-  pub changes-accepted : (live : ℕ) (f : Float) (left : List ℕ) → refusal c A ≡ 0 → live ≡ newLive c A
-      → f ≡ whole (liveCost (A .job) (newLive c A) (made c A)) → left ≡ encode (stopCount (A .job)) (made c A)
-      → Changes c A (C.Stands (record { live = live; cost = f })) left
-  changes-accepted live f left e l h k = changes _ left (change-accepted c A live f (sym e) l h) (left-new c A left (sym e) k)
 
 -- ---- a written plan
 

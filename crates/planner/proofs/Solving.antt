@@ -25,4 +25,4 @@ module _ (A : Arguments) where
   task-accepted e =
       let l = listed Solve A e in
       let s = smooth Solve A e refl in
-      record { sizes = l .sizes; short = l .limits .short; prices = affordable Solve A e refl; smooth = s .0; notTooSmooth = s .1 }
+      record { sizes = l .sizes; short = l .limits refl .short; prices = affordable Solve A e refl; smooth = s .0; notTooSmooth = s .1 }

@@ -1,16 +1,19 @@
 // The public calls, under one name. Each tests its arguments and promises what `Calls` of model defines: a refusal by its number, with
-// the lent plan as it was, or the values, with the new plan in the lent one. None has a precondition.
+// the lent plan as it was, or the values, with the new plan in the lent one. None has a precondition. Those that came later stand in
+// crates of their own, and are passed on.
 ghost use mathlib.Core.List.{[], _∷_};
 ghost use Rattle.model.specs.Job.{jobOf};
-ghost use Rattle.model.specs.Refusals.{asking, naming, Weigh, TwoOpt, Rebuild, Exhaustive, Pruned, Arrive, Cancel, unpriced, running};
-ghost use Rattle.model.specs.Calls.{Weighs, Writes, Changes};
+ghost use Rattle.model.specs.Refusals.{asking, Weigh, TwoOpt, Rebuild, Exhaustive, Pruned, unpriced, running};
+ghost use Rattle.model.specs.Calls.{Weighs, Writes};
 ghost use Rattle.planner.specs.Kept.{Solves};
-use model::Changed;
 use model::Prices;
 use model::Solved;
-use model::Standing;
 use model::Weighed;
 use model::Written;
+pub use planner_live::arrive;
+pub use planner_live::cancel;
+pub use planner_vans::move_stop;
+pub use planner_vans::view;
 
 // Weighs a plan.
 pub fn weigh(
@@ -193,76 +196,4 @@ pub fn solve(
     let v = vehicles.len() / 2;
     let n = stops.len();
     Solved::Ran(ruin_and_recreate::run(&legs, v, n, prices, smoothing, limit, draws, plan))
-}
-
-// Adds a stop while others are live: it is put where the plan then costs least, or stays unplaced where that is strictly cheaper.
-pub fn arrive(
-    vehicles: &[u32],
-    stops: &[u32],
-    locations: u32,
-    distances: &[u32],
-    prices: Prices,
-    plan: &mut [u32],
-    live: u64,
-    stop: u32,
-) -> Changed
-    ensures { λ r. ⌜ Changes Arrive (naming (jobOf (now (vehicles .entry)) (now (stops .entry)) locations (now (distances .entry)) prices) (now (plan .entry)) live stop) r (now (plan .exit)) ⌝ }
-{
-    let refused = call_refusals::of_arrive(
-        vehicles,
-        stops,
-        locations,
-        distances,
-        prices,
-        plan,
-        live,
-        stop,
-    );
-    if refused != 0 {
-        return Changed::Refused(refused);
-    }
-    let mut legs = [0u32; 6400];
-    distance::leg_table(vehicles, stops, locations, distances, &mut legs);
-    let v = vehicles.len() / 2;
-    let cost = arrival::arrive(&legs, v, stops.len(), prices, plan, live, stop);
-    Changed::Stands(Standing {
-        live: stop_set::with(live, stop),
-        cost,
-    })
-}
-
-// Cancels a live stop: it leaves its route, where it is on one, and is no longer counted as missed.
-pub fn cancel(
-    vehicles: &[u32],
-    stops: &[u32],
-    locations: u32,
-    distances: &[u32],
-    prices: Prices,
-    plan: &mut [u32],
-    live: u64,
-    stop: u32,
-) -> Changed
-    ensures { λ r. ⌜ Changes Cancel (naming (jobOf (now (vehicles .entry)) (now (stops .entry)) locations (now (distances .entry)) prices) (now (plan .entry)) live stop) r (now (plan .exit)) ⌝ }
-{
-    let refused = call_refusals::of_cancel(
-        vehicles,
-        stops,
-        locations,
-        distances,
-        prices,
-        plan,
-        live,
-        stop,
-    );
-    if refused != 0 {
-        return Changed::Refused(refused);
-    }
-    let mut legs = [0u32; 6400];
-    distance::leg_table(vehicles, stops, locations, distances, &mut legs);
-    let v = vehicles.len() / 2;
-    let cost = cancellation::cancel(&legs, v, stops.len(), prices, plan, live, stop);
-    Changed::Stands(Standing {
-        live: stop_set::without(live, stop),
-        cost,
-    })
 }

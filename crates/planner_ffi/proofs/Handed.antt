@@ -4,6 +4,7 @@ use mathlib.Core.List.{List, [], _∷_}
 use mathlib.Core.Bool.{Bool, true, false, cond}
 use Prim.Native.Nat.{ℕ, zero, suc}
 use lib.Ieee.{Float}
+use lib.IntN.{ℤ}
 use mir.Val.{boolByte}
 use Rattle.model.specs.declared.Totals.{Totals}
 use Rattle.model.specs.declared.Weighed.{Weighed}
@@ -15,13 +16,17 @@ use Rattle.model.specs.declared.Solved.the-variants as S
 use Rattle.model.specs.declared.Standing.{Standing}
 use Rattle.model.specs.declared.Changed.{Changed}
 use Rattle.model.specs.declared.Changed.the-variants as C
+use Rattle.model.specs.declared.Viewed.{Viewed}
+use Rattle.model.specs.declared.Viewed.the-variants as Seen
+use Rattle.model.specs.declared.Moved.{Moved}
+use Rattle.model.specs.declared.Moved.the-variants as M
 use Rattle.model.specs.Whole.{amount}
 use Rattle.model.specs.Cost.{cost}
 use Rattle.model.specs.Live.{liveCost}
-use Rattle.model.specs.Refusals.{Arguments, Call, StartPlan, Solve, refusal}
-use Rattle.model.specs.Calls.{taskOf, totals, made, newLive, weighed, written, solved, changed, costAnswer, startAnswer, solveAnswer, liveAnswer, saidByWeighed, saidByWritten, saidBySolved, saidByChanged, saying, costSaid, startSaid, solveSaid, liveSaid, Weighs, Writes, Changes}
+use Rattle.model.specs.Refusals.{Arguments, Call, StartPlan, Solve, View, MoveStop, refusal}
+use Rattle.model.specs.Calls.{taskOf, totals, made, newLive, weighed, written, solved, changed, viewed, carried, costAnswer, startAnswer, solveAnswer, liveAnswer, viewAnswer, moveAnswer, saidByWeighed, saidByWritten, saidBySolved, saidByChanged, saidByViewed, saidByMoved, saying, signedSaying, costSaid, startSaid, solveSaid, liveSaid, viewSaid, moveSaid, Weighs, Writes, Changes, Views, Moves}
 use Rattle.planner.specs.Kept.{Keeps, Solves}
-use Rattle.planner_ffi.specs.Border.{costLeft, liveLeft, liveCostLeft, Results, results, resultsLeft, valuesIn, HandsCost, HandsPlan, HandsChange, HandsRun}
+use Rattle.planner_ffi.specs.Border.{costLeft, liveLeft, liveCostLeft, unplacedLeft, changeLeft, Results, results, resultsLeft, valuesIn, HandsCost, HandsPlan, HandsChange, HandsView, HandsMove, HandsRun}
 
 -- ---- a cost
 
@@ -90,6 +95,57 @@ module _ (c : Call) (A : Arguments) (a : Changed) (left : List ℕ) (w : Changes
         cost = g;
         plan = w .plan;
       }
+
+-- ---- a view
+
+module _ (a : Viewed) where
+  pub refused-view : (k old : ℕ) → a ≡ Seen.Refused k → (k ≡ saidByViewed a .number) × (old ≡ unplacedLeft a old)
+  unfolding saidByViewed unplacedLeft
+  refused-view k old e = (ap (λ (x : Viewed). saidByViewed x .number) (sym e), ap (λ (x : Viewed). unplacedLeft x old) (sym e))
+
+  pub accepted-view : (set old : ℕ) → a ≡ Seen.Unplaced set → (0 ≡ saidByViewed a .number) × (set ≡ unplacedLeft a old)
+  unfolding saidByViewed unplacedLeft
+  accepted-view set old e = (ap (λ (x : Viewed). saidByViewed x .number) (sym e), ap (λ (x : Viewed). unplacedLeft x old) (sym e))
+
+some-view : (x set r old new : ℕ) → r ≡ saidByViewed (viewed x set) .number → new ≡ unplacedLeft (viewed x set) old
+    → saying r (new ∷ []) ≡ saying x (set ∷ [])
+unfolding saidByViewed unplacedLeft
+some-view zero set r old new h e = rw (h, e)
+some-view (suc x) set r old new h e = rw h
+
+module _ (A : Arguments) (a : Viewed) (seen : List ℕ) (w : Views A a seen) where
+  pub hands-view : (r old new : ℕ) → r ≡ saidByViewed a .number → new ≡ unplacedLeft a old → HandsView A r old new seen
+  unfolding viewAnswer viewSaid
+  hands-view r old new h e =
+      let n : r ≡ saidByViewed (viewAnswer A) .number = h ∙ ap (λ (x : Viewed). saidByViewed x .number) (w .answer) in
+      let l : new ≡ unplacedLeft (viewAnswer A) old = e ∙ ap (λ (x : Viewed). unplacedLeft x old) (w .answer) in
+      record { said = some-view (refusal View A) _ r old new n l; unplaced = l; list = w .list }
+
+-- ---- a move
+
+module _ (a : Moved) where
+  pub refused-move : (k : ℕ) (old : ℤ) → a ≡ M.Refused k → (k ≡ saidByMoved a .number) × (old ≡ changeLeft a old)
+  unfolding saidByMoved changeLeft
+  refused-move k old e = (ap (λ (x : Moved). saidByMoved x .number) (sym e), ap (λ (x : Moved). changeLeft x old) (sym e))
+
+  -- y is the change as it is read back from its bits
+  pub accepted-move : (y z old : ℤ) → y ≡ z → a ≡ M.Change z → (0 ≡ saidByMoved a .number) × (y ≡ changeLeft a old)
+  unfolding saidByMoved changeLeft
+  accepted-move y z old b e = (ap (λ (x : Moved). saidByMoved x .number) (sym e), b ∙ ap (λ (x : Moved). changeLeft x old) (sym e))
+
+some-move : (x : ℕ) (z : ℤ) (r : ℕ) (old new : ℤ) → r ≡ saidByMoved (carried x z) .number → new ≡ changeLeft (carried x z) old
+    → signedSaying r (new ∷ []) ≡ signedSaying x (z ∷ [])
+unfolding saidByMoved changeLeft
+some-move zero z r old new h e = rw (h, e)
+some-move (suc x) z r old new h e = rw h
+
+module _ (A : Arguments) (a : Moved) (left : List ℕ) (w : Moves A a left) where
+  pub hands-move : (r : ℕ) (old new : ℤ) → r ≡ saidByMoved a .number → new ≡ changeLeft a old → HandsMove A r old new left
+  unfolding moveAnswer moveSaid
+  hands-move r old new h e =
+      let n : r ≡ saidByMoved (moveAnswer A) .number = h ∙ ap (λ (x : Moved). saidByMoved x .number) (w .answer) in
+      let l : new ≡ changeLeft (moveAnswer A) old = e ∙ ap (λ (x : Moved). changeLeft x old) (w .answer) in
+      record { said = some-move (refusal MoveStop A) _ r old new n l; change = l; plan = w .plan }
 
 -- ---- a written plan
 

@@ -4,6 +4,7 @@ use Prim.Native.Nat.{ℕ}
 use mathlib.Core.Bool.{cond}
 use mathlib.Core.List.{List, [], _∷_}
 use lib.Ieee.{Float}
+use lib.IntN.{ℤ}
 use Rattle.model.specs.declared.Prices.{Prices}
 use Rattle.model.specs.declared.Weighed.{Weighed}
 use Rattle.model.specs.declared.Weighed.the-variants as W
@@ -11,9 +12,13 @@ use Rattle.model.specs.declared.Solved.{Solved}
 use Rattle.model.specs.declared.Solved.the-variants as S
 use Rattle.model.specs.declared.Changed.{Changed}
 use Rattle.model.specs.declared.Changed.the-variants as C
+use Rattle.model.specs.declared.Viewed.{Viewed}
+use Rattle.model.specs.declared.Viewed.the-variants as Seen
+use Rattle.model.specs.declared.Moved.{Moved}
+use Rattle.model.specs.declared.Moved.the-variants as M
 use Rattle.model.specs.Whole.{amount}
-use Rattle.model.specs.Refusals.{Arguments, Call, StartPlan, Solve}
-use Rattle.model.specs.Calls.{costAnswer, solveAnswer, liveAnswer, planLeft, saying, costSaid, startSaid, solveSaid, liveSaid}
+use Rattle.model.specs.Refusals.{Arguments, Call, StartPlan, Solve, MoveStop}
+use Rattle.model.specs.Calls.{costAnswer, solveAnswer, liveAnswer, viewAnswer, moveAnswer, planLeft, seenLeft, saying, signedSaying, costSaid, startSaid, solveSaid, liveSaid, viewSaid, moveSaid}
 use Rattle.planner.specs.Kept.{Keeps}
 
 -- prices cross the border as three numbers
@@ -35,6 +40,16 @@ liveLeft (C.Stands t) old = t .live
 unfoldable pub liveCostLeft : Changed → Float → Float
 liveCostLeft (C.Refused k) old = old
 liveCostLeft (C.Stands t) old = t .cost
+
+-- of view: the set of unplaced stops
+unfoldable pub unplacedLeft : Viewed → ℕ → ℕ
+unplacedLeft (Seen.Refused k) old = old
+unplacedLeft (Seen.Unplaced set) old = set
+
+-- of move_stop: the change in cost, with its sign
+unfoldable pub changeLeft : Moved → ℤ → ℤ
+changeLeft (M.Refused k) old = old
+changeLeft (M.Change z) old = z
 
 -- of solve, one for each number that is lent
 pub record Results : Type 0 where
@@ -73,6 +88,17 @@ pub record HandsChange (c : Call) (A : Arguments) (r : ℕ) (oldLive newLive : �
   pub after : newLive ≡ liveLeft (liveAnswer c A) oldLive
   pub cost : newCost ≡ liveCostLeft (liveAnswer c A) oldCost
   pub plan : left ≡ planLeft c A
+
+-- `seen` is the list that a view is written to
+pub record HandsView (A : Arguments) (r : ℕ) (old new : ℕ) (seen : List ℕ) : Type 0 where
+  pub said : saying r (new ∷ []) ≡ viewSaid A
+  pub unplaced : new ≡ unplacedLeft (viewAnswer A) old
+  pub list : seen ≡ seenLeft A
+
+pub record HandsMove (A : Arguments) (r : ℕ) (old new : ℤ) (left : List ℕ) : Type 0 where
+  pub said : signedSaying r (new ∷ []) ≡ moveSaid A
+  pub change : new ≡ changeLeft (moveAnswer A) old
+  pub plan : left ≡ planLeft MoveStop A
 
 pub record HandsRun (A : Arguments) (r : ℕ) (old new : Results) (left : List ℕ) : Type 0 where
   pub said : saying r (valuesIn new) ≡ solveSaid A

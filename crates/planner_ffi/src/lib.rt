@@ -3,12 +3,15 @@
 ghost use mathlib.Core.Path.{_≡_};
 ghost use mathlib.Core.List.{[], _∷_};
 ghost use Rattle.model.specs.Job.{jobOf};
-ghost use Rattle.model.specs.Refusals.{asking, naming, Weigh, TwoOpt, Rebuild, Exhaustive, Pruned, Arrive, Cancel, unpriced, running};
-ghost use Rattle.model.specs.Calls.{saidByWeighed, saidBySolved, saidByChanged};
-ghost use Rattle.planner_ffi.specs.Border.{priced, costLeft, results, resultsLeft, liveLeft, liveCostLeft, HandsCost, HandsPlan, HandsRun, HandsChange};
+ghost use Rattle.model.specs.Refusals.{asking, naming, looking, moving, tableless, Weigh, TwoOpt, Rebuild, Exhaustive, Pruned, Arrive, Cancel, unpriced, running};
+ghost use Rattle.model.specs.Vans.{moveTo};
+ghost use Rattle.model.specs.Calls.{saidByWeighed, saidBySolved, saidByChanged, saidByViewed, saidByMoved};
+ghost use Rattle.planner_ffi.specs.Border.{priced, costLeft, results, resultsLeft, liveLeft, liveCostLeft, unplacedLeft, changeLeft, HandsCost, HandsPlan, HandsRun, HandsChange, HandsView, HandsMove};
 use model::Changed;
+use model::Moved;
 use model::Prices;
 use model::Solved;
+use model::Viewed;
 use model::Weighed;
 use model::Written;
 
@@ -37,6 +40,34 @@ fn hand_change(answer: Changed, after: &mut u64, cost: &mut f64) -> u32
         Changed::Stands(t) => {
             *after = t.live;
             *cost = t.cost;
+            0
+        }
+    }
+}
+
+// The number and the set of unplaced stops of an answer.
+fn hand_view(answer: Viewed, unplaced: &mut u64) -> u32
+    ensures { λ r. ⌜ r ≡ saidByViewed answer .number ⌝ }
+    ensures { λ _. ⌜ now (unplaced .exit) ≡ unplacedLeft answer (now (unplaced .entry)) ⌝ }
+{
+    match answer {
+        Viewed::Refused(number) => number,
+        Viewed::Unplaced(set) => {
+            *unplaced = set;
+            0
+        }
+    }
+}
+
+// The number and the change in cost of an answer.
+fn hand_move(answer: Moved, change: &mut i64) -> u32
+    ensures { λ r. ⌜ r ≡ saidByMoved answer .number ⌝ }
+    ensures { λ _. ⌜ now (change .exit) ≡ changeLeft answer (now (change .entry)) ⌝ }
+{
+    match answer {
+        Moved::Refused(number) => number,
+        Moved::Change(difference) => {
+            *change = difference;
             0
         }
     }
@@ -333,4 +364,62 @@ pub extern "C" fn planner_cancel(
         stop,
     );
     hand_change(answer, after, cost)
+}
+
+// Shows a plan to a caller who holds a set of vans: the routes of other vans are emptied, and the unplaced stops are handed over as a set.
+#[no_mangle]
+pub extern "C" fn planner_view(
+    vehicles: &[u32],
+    stops: &[u32],
+    plan: &[u32],
+    vans: u32,
+    seen: &mut [u32],
+    unplaced: &mut u64,
+) -> u32
+    ensures { λ r. ⌜ HandsView (looking (tableless (now (vehicles .entry)) (now (stops .entry))) (now (plan .entry)) vans (now (seen .entry))) r
+        (now (unplaced .entry)) (now (unplaced .exit)) (now (seen .exit)) ⌝ }
+{
+    let answer = planner::view(vehicles, stops, plan, vans, seen);
+    hand_view(answer, unplaced)
+}
+
+// Moves a stop, from one of the caller's vans or from the unplaced ones, to a place of one of the caller's vans. The place is counted
+// after the stop has been taken out.
+#[no_mangle]
+pub extern "C" fn planner_move_stop(
+    vehicles: &[u32],
+    stops: &[u32],
+    locations: u32,
+    distances: &[u32],
+    linear: u32,
+    quadratic: u32,
+    missed: u64,
+    plan: &mut [u32],
+    vans: u32,
+    stop: u32,
+    van: u32,
+    place: u32,
+    change: &mut i64,
+) -> u32
+    ensures { λ r. ⌜ HandsMove (moving (jobOf (now (vehicles .entry)) (now (stops .entry)) locations (now (distances .entry)) (priced linear quadratic missed)) (now (plan .entry)) vans (moveTo stop van place)) r
+        (now (change .entry)) (now (change .exit)) (now (plan .exit)) ⌝ }
+{
+    let prices = Prices {
+        linear,
+        quadratic,
+        missed,
+    };
+    let answer = planner::move_stop(
+        vehicles,
+        stops,
+        locations,
+        distances,
+        prices,
+        plan,
+        vans,
+        stop,
+        van,
+        place,
+    );
+    hand_move(answer, change)
 }

@@ -1,12 +1,12 @@
 -- The call of a sheet whose lists stand at the front of others.
-use mathlib.Core.Path.{_≡_, sym, _∙_, ap, subst}
-use Prim.Native.Nat.{ℕ, _+_, _-_, _≤_}
+use mathlib.Core.Path.{_≡_, refl, sym, _∙_, ap, subst}
+use Prim.Native.Nat.{ℕ, _+_, _-_, _*_, _≤_}
 use native.Mathlib.Omega.{arith}
-use mathlib.Core.Logic.{inl, inr}
 use mathlib.Core.Bool.{Bool, true, false, cond}
 use mathlib.Core.List.{List, []}
+use borrow.Author.Tests.{ltb-false}
+use lib.Dec.{ltb}
 use lib.ListN.{length, take, length-take}
-use Rattle.model.proofs.Lists.{Tested, tested}
 use Rattle.file_job.specs.declared.Header.{Header}
 use Rattle.file_job.specs.Reading.{Buffers}
 use Rattle.file_job.proofs.Held.{taskIn, same-task}
@@ -14,31 +14,17 @@ use Rattle.file_printing.specs.Printing.{Prints}
 use Rattle.sheet_head.specs.declared.Head.{Head}
 use Rattle.sheet_head.specs.Form.{hasGiven, leastGiven, mostGiven, hasPlan, ListFor, longestPlan}
 use Rattle.sheet_answer.specs.Sheets.{callOf, printedCall}
-use Rattle.sheet_answer.specs.Running.{Runs, planLength, ReadySheet, SheetPrints}
+use Rattle.sheet_answer.specs.Running.{Runs, Small, planLength, ReadySheet, SheetPrints}
 
 -- the one or the other is short enough
 either-fits : (b : Bool) (x y m : ℕ) → x ≤ m → y ≤ m → cond b x y ≤ m
 either-fits true x y m h g = h
 either-fits false x y m h g = g
 
--- two_opt has two given stops
-two-given : (call : ℕ) (known ns : List ℕ) → call ≡ 3 → ListFor (hasGiven call) (leastGiven call) (mostGiven call) known ns → length ns ≡ 2
-two-given call known ns c f =
-    let g : ListFor true 2 2 known ns = rw c at f in
-    omega (arith, g .0, g .1)
-
--- arrive and cancel have three given numbers
-three-given : (call : ℕ) (known ns : List ℕ) → 8 ≤ call → call ≤ 9 → ListFor (hasGiven call) (leastGiven call) (mostGiven call) known ns → length ns ≡ 3
-three-given call known ns a b f = go (tested call 8)
-  where
-    go : Tested call 8 → length ns ≡ 3
-    go (inl q) =
-        let g : ListFor true 3 3 known ns = rw (q .0) at f in
-        omega (arith, g .0, g .1)
-    go (inr q) =
-        let e : call ≡ 9 = omega (arith, q .0) in
-        let g : ListFor true 3 3 known ns = rw e at f in
-        omega (arith, g .0, g .1)
+-- as many numbers as a call asks for, where that is one count
+exactly : (b : Bool) (least most : ℕ) (ns : List ℕ) → ltb 0 most ≡ b → least ≡ most → ListFor b least most [] ns → length ns ≡ least
+exactly true least most ns q e f = omega (arith, f .0, f .1)
+exactly false least most ns q e f = omega (arith, ltb-false 0 most q, ap length f)
 
 module _ (k : Head) (h : Header) (m : Buffers) (given plan out : List ℕ) (y : ReadySheet k h m given plan out) (x : ℕ)
     (e : x ≡ planLength (k .call) (k .plan) (h .vehicles + h .stops)) where
@@ -60,11 +46,16 @@ module _ (k : Head) (h : Header) (m : Buffers) (given plan out : List ℕ) (y : 
       record {
         first = rw (H .call) (r .first);
         last = rw (H .call) (r .last);
-        pair = λ c. ap length (ap (λ n. take n given) z ∙ H .stops) ∙ two-given (S .call) [] (S .given) (sym (H .call) ∙ c) (r .given);
-        three = λ l. ap length (ap (λ n. take n given) z ∙ H .stops)
-            ∙ three-given (S .call) [] (S .given) (omega (arith, H .call)) (r .last) (r .given);
+        counted = λ n c o. ap length (ap (λ m. take m given) z ∙ H .stops)
+            ∙ exactly (hasGiven n) (leastGiven n) (mostGiven n) (S .given) refl o
+            (subst (λ m. ListFor (hasGiven m) (leastGiven m) (mostGiven m) [] (S .given)) (sym (H .call) ∙ c) (r .given));
         printable = record { short = omega (arith, length-take (x - 0) plan, y .long); room = y .room };
       }
+
+  pub few-places : Small (take (h .vehicles * 2 - 0) (m .vehicles)) (take (h .stops - 0) (m .stops))
+  few-places =
+      let b = y .bounds in
+      omega (arith, b .vehicles, b .stops, length-take (h .vehicles * 2 - 0) (m .vehicles), length-take (h .stops - 0) (m .stops))
 
   pub sheet-prints : (old new : List ℕ) (r : ℕ)
       → Prints old new r (printedCall (callOf (k .call)) (take (k .given - 0) given) (take (x - 0) plan) (taskIn h m))

@@ -6,11 +6,12 @@ use mathlib.Core.List.{List, [], _∷_}
 use lib.ListN.{length, getD}
 use Rattle.model.specs.Job.{Job}
 use Rattle.model.specs.Run.{Task}
-use Rattle.model.specs.Refusals.{Arguments, asking, Call, Weigh, StartPlan, TwoOpt, Rebuild, Exhaustive, Pruned, Solve, Arrive, Cancel, running}
-use Rattle.model.specs.Calls.{costAnswer, startAnswer, solveAnswer, liveAnswer, planLeft}
+use Rattle.model.specs.Refusals.{Arguments, asking, Call, Weigh, StartPlan, TwoOpt, Rebuild, Exhaustive, Pruned, Solve, Arrive, Cancel, MoveStop, running, looking, tableless}
+use Rattle.model.specs.Calls.{costAnswer, startAnswer, solveAnswer, liveAnswer, viewAnswer, seenLeft, moveAnswer, planLeft, blank}
 use Rattle.file_printing.specs.Printing.{Prints}
-use Rattle.sheet_lines.specs.Printed.{printedWeight, printedStart, printedWeighed, printedSolved, printedChanged}
+use Rattle.sheet_lines.specs.Printed.{printedWeight, printedStart, printedWeighed, printedSolved, printedChanged, printedViewed, printedMoved}
 use Rattle.sheet_calls.specs.Changing.{changing}
+use Rattle.sheet_calls.specs.Moving.{carrying}
 use Rattle.sheet_answer.specs.Sheets.{callOf, priceless, printedCosts, printedChanges, printedCall}
 use Rattle.sheet_answer.specs.Running.{JobPrints}
 
@@ -85,3 +86,18 @@ module _ (old new : List ℕ) (r : ℕ) where
           → Prints old new r (printedChanged (liveAnswer Cancel (changing J plan given)) left) → JobPrints call J given plan old new r
       unfolding printedCall
       ran-cancel e l p T j = rw (e, j) (change-printed Cancel (changing J plan given) left l p)
+
+      pub ran-view : (seen : List ℕ) → call ≡ 10 → seen ≡ blank J → left ≡ seenLeft (looking (tableless (J .vehicles) (J .stops)) plan (getD given 0 0) seen)
+          → Prints old new r (printedViewed (viewAnswer (looking (tableless (J .vehicles) (J .stops)) plan (getD given 0 0) seen)) left)
+          → JobPrints call J given plan old new r
+      unfolding printedCall
+      ran-view seen e s l p T j =
+          let sees = looking (tableless (J .vehicles) (J .stops)) plan (getD given 0 0) in
+          rw (e, j)
+          (subst (λ x. Prints old new r (printedViewed (viewAnswer (sees x)) (seenLeft (sees x)))) s
+          (subst (λ x. Prints old new r (printedViewed (viewAnswer (sees seen)) x)) l p))
+
+      pub ran-move : call ≡ 11 → left ≡ planLeft MoveStop (carrying J plan given)
+          → Prints old new r (printedMoved (moveAnswer (carrying J plan given)) left) → JobPrints call J given plan old new r
+      unfolding printedCall
+      ran-move e l p T j = rw (e, j) (subst (λ x. Prints old new r (printedMoved (moveAnswer (carrying J plan given)) x)) l p)

@@ -1,6 +1,6 @@
 -- What is asked and promised of running the call of a sheet.
 use mathlib.Core.Path.{_≡_}
-use Prim.Native.Nat.{ℕ, _+_, _≤_}
+use Prim.Native.Nat.{ℕ, _+_, _/_, _≤_}
 use mathlib.Core.Bool.{cond}
 use mathlib.Core.List.{List}
 use lib.ListN.{length, take}
@@ -14,16 +14,19 @@ use Rattle.sheet_lines.specs.Printed.{Printable, mostForSheet}
 use Rattle.sheet_head.specs.declared.Head.{Head}
 use Rattle.sheet_answer.specs.declared.SheetRead.{SheetRead}
 use Rattle.sheet_answer.specs.declared.SheetRead.the-variants as R
-use Rattle.sheet_head.specs.Form.{hasPlan, longestPlan}
+use Rattle.sheet_head.specs.Form.{lastCall, leastGiven, mostGiven, hasPlan, longestPlan}
 use Rattle.sheet_answer.specs.Sheets.{Sheet, ReadableSheet, SheetAt, callOf, printedCall, printedSheet}
 
--- a call's number, the numbers and the plan that it is lent, and room to print into
+-- a call's number, the numbers and the plan that it is lent, and room to print into: as many numbers as the call asks for, where that is one count
 pub record Runs (call : ℕ) (given plan out : List ℕ) : Type 0 where
   pub first : 1 ≤ call
-  pub last : call ≤ 9
-  pub pair : call ≡ 3 → length given ≡ 2
-  pub three : 8 ≤ call → length given ≡ 3
+  pub last : call ≤ lastCall
+  pub counted : (k : ℕ) → call ≡ k → leastGiven k ≡ mostGiven k → length given ≡ leastGiven k
   pub printable : Printable plan out
+
+-- the vehicles and the stops of a job whose plan is no longer than one of a sheet
+abbrev pub Small : List ℕ → List ℕ → Type 0
+Small vehicles stops = length vehicles / 2 + length stops ≤ longestPlan
 
 -- so many bytes are printed for a call, whatever else the task of this job is
 abbrev pub JobPrints : ℕ → Job → List ℕ → List ℕ → List ℕ → List ℕ → ℕ → Type 0

@@ -4,16 +4,17 @@ use Prim.Native.Nat.{ℕ, _+_, _≤_}
 use mathlib.Core.Bool.{cond}
 use mathlib.Core.List.{List, [], _∷_, _++_}
 use lib.Dec.{eqb}
-use lib.ListN.{length}
+use lib.ListN.{length, getD}
 use Rattle.model.specs.Lists.{forEach}
 use Rattle.model.specs.Job.{Job, jobOf}
 use Rattle.model.specs.Run.{Task}
 use Rattle.model.specs.File.{fileOf, Readable, Stands}
-use Rattle.model.specs.Refusals.{Arguments, asking, Call, Weigh, StartPlan, TwoOpt, Rebuild, Exhaustive, Pruned, Solve, Arrive, Cancel, unpriced, running}
-use Rattle.model.specs.Calls.{costAnswer, startAnswer, solveAnswer, liveAnswer, planLeft, blank}
-use Rattle.sheet_head.specs.Form.{hasGiven, leastGiven, mostGiven, hasPlan, headOf, ListFor, longestPlan}
-use Rattle.sheet_lines.specs.Printed.{printedWeight, printedStart, printedWeighed, printedSolved, printedChanged}
+use Rattle.model.specs.Refusals.{Arguments, asking, Call, Weigh, StartPlan, TwoOpt, Rebuild, Exhaustive, Pruned, Solve, Arrive, Cancel, View, MoveStop, unpriced, running, looking, tableless}
+use Rattle.model.specs.Calls.{costAnswer, startAnswer, solveAnswer, liveAnswer, viewAnswer, seenLeft, moveAnswer, planLeft, blank}
+use Rattle.sheet_head.specs.Form.{lastCall, hasGiven, leastGiven, mostGiven, hasPlan, headOf, ListFor, longestPlan}
+use Rattle.sheet_lines.specs.Printed.{printedWeight, printedStart, printedWeighed, printedSolved, printedChanged, printedViewed, printedMoved}
 use Rattle.sheet_calls.specs.Changing.{changing}
+use Rattle.sheet_calls.specs.Moving.{carrying}
 
 -- a call's number, the given numbers, the plan that is lent, and a task
 pub record Sheet : Type 0 where
@@ -24,7 +25,7 @@ pub record Sheet : Type 0 where
 
 -- ---- the form of a sheet
 
--- 1 weigh, 2 start_plan, 3 two_opt, 4 rebuild, 5 exhaustive, 6 pruned, 7 solve, 8 arrive, 9 cancel
+-- 1 weigh, 2 start_plan, 3 two_opt, 4 rebuild, 5 exhaustive, 6 pruned, 7 solve, 8 arrive, 9 cancel, 10 view, 11 move_stop
 abbrev pub callOf : ℕ → Call
 callOf n =
     cond (eqb n 1) Weigh
@@ -34,7 +35,9 @@ callOf n =
     (cond (eqb n 5) Exhaustive
     (cond (eqb n 6) Pruned
     (cond (eqb n 7) Solve
-    (cond (eqb n 8) Arrive Cancel)))))))
+    (cond (eqb n 8) Arrive
+    (cond (eqb n 9) Cancel
+    (cond (eqb n 10) View MoveStop)))))))))
 
 -- the written form of a sheet
 unfoldable pub sheetOf : Sheet → List ℕ
@@ -45,7 +48,7 @@ sheetOf S = headOf (S .call) (S .given) (S .plan) ++ fileOf (S .task)
 -- a call without a plan line is lent v + n zeros
 pub record ReadableSheet (S : Sheet) : Type 0 where
   pub first : 1 ≤ S .call
-  pub last : S .call ≤ 9
+  pub last : S .call ≤ lastCall
   pub given : ListFor (hasGiven (S .call)) (leastGiven (S .call)) (mostGiven (S .call)) [] (S .given)
   pub plan : ListFor (hasPlan (S .call)) 0 longestPlan (blank (S .task .job)) (S .plan)
   pub task : Readable (S .task)
@@ -74,6 +77,10 @@ printedCosts c A = printedWeighed (costAnswer c A) (planLeft c A)
 abbrev pub printedChanges : Call → Arguments → List ℕ
 printedChanges c A = printedChanged (liveAnswer c A) (planLeft c A)
 
+-- the arguments of view, from the one number of a sheet, a set of vans: v + n zeros are lent for what is seen
+abbrev pub seeing : Job → List ℕ → List ℕ → Arguments
+seeing J plan given = looking (tableless (J .vehicles) (J .stops)) plan (getD given 0 0) (blank J)
+
 -- what each call prints, given these numbers, this plan and this task
 unfoldable pub printedCall : Call → List ℕ → List ℕ → Task → List ℕ
 printedCall Weigh given plan T = printedWeight (costAnswer Weigh (asking (T .job) plan []))
@@ -89,6 +96,12 @@ printedCall Solve given plan T =
     printedSolved (solveAnswer A) (planLeft Solve A)
 printedCall Arrive given plan T = printedChanges Arrive (changing (T .job) plan given)
 printedCall Cancel given plan T = printedChanges Cancel (changing (T .job) plan given)
+printedCall View given plan T =
+    let A = seeing (T .job) plan given in
+    printedViewed (viewAnswer A) (seenLeft A)
+printedCall MoveStop given plan T =
+    let A = carrying (T .job) plan given in
+    printedMoved (moveAnswer A) (planLeft MoveStop A)
 
 abbrev pub printedSheet : Sheet → List ℕ
 printedSheet S = printedCall (callOf (S .call)) (S .given) (S .plan) (S .task)

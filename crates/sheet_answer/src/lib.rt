@@ -13,7 +13,7 @@ ghost use Rattle.file_job.specs.Reading.{buffers};
 ghost use Rattle.file_printing.specs.Printing.{Prints};
 ghost use Rattle.sheet_lines.specs.Printed.{mostForSheet};
 ghost use Rattle.sheet_answer.specs.Sheets.{callOf, printedCall};
-ghost use Rattle.sheet_answer.specs.Running.{Runs, JobPrints, planLength, ReadySheet, SheetPrints, AnswersSheet};
+ghost use Rattle.sheet_answer.specs.Running.{Runs, Small, JobPrints, planLength, ReadySheet, SheetPrints, AnswersSheet};
 
 // The position after a sheet that was answered, and how many bytes are printed for it; or how many are where no sheet stands.
 pub enum SheetRead {
@@ -84,7 +84,7 @@ fn run_live(
     out: &mut [u8],
 ) -> usize
     requires { ⌜ Runs call (now given) (now plan) (now out) ⌝ }
-    requires { ⌜ 8 ≤ call ⌝ }
+    requires { ⌜ (8 ≤ call) × (call ≤ 9) ⌝ }
     ensures { λ r. ⌜ JobPrints call (jobOf (now (vehicles .entry)) (now (stops .entry)) locations (now (distances .entry)) prices)
         (now (given .entry)) (now (plan .entry)) (now (out .entry)) (now (out .exit)) r ⌝ }
 {
@@ -112,6 +112,41 @@ fn run_live(
     )
 }
 
+// Runs a call of a caller who holds a set of vans: view or move_stop.
+fn run_vans(
+    call: u32,
+    vehicles: &[u32],
+    stops: &[u32],
+    locations: u32,
+    distances: &[u32],
+    prices: Prices,
+    given: &[u32],
+    plan: &mut [u32],
+    out: &mut [u8],
+) -> usize
+    requires { ⌜ Runs call (now given) (now plan) (now out) ⌝ }
+    requires { ⌜ (10 ≤ call) × Small (now vehicles) (now stops) ⌝ }
+    ensures { λ r. ⌜ JobPrints call (jobOf (now (vehicles .entry)) (now (stops .entry)) locations (now (distances .entry)) prices)
+        (now (given .entry)) (now (plan .entry)) (now (out .entry)) (now (out .exit)) r ⌝ }
+{
+    if call == 10 {
+        let vans = given[0];
+        let mut seen = [0u32; 96];
+        let m = vehicles.len() / 2 + stops.len();
+        return sheet_calls::view(vehicles, stops, plan, vans, &mut seen[..m], out);
+    }
+    sheet_calls::move_stop(
+        vehicles,
+        stops,
+        locations,
+        distances,
+        prices,
+        plan,
+        given,
+        out,
+    )
+}
+
 // Runs the call of a number and prints its answer: how many bytes it is.
 fn run_call(
     call: u32,
@@ -128,6 +163,7 @@ fn run_call(
     out: &mut [u8],
 ) -> usize
     requires { ⌜ Runs call (now given) (now plan) (now out) ⌝ }
+    requires { ⌜ Small (now vehicles) (now stops) ⌝ }
     ensures { λ r. ⌜ Prints (now (out .entry)) (now (out .exit)) r (printedCall (callOf call) (now (given .entry)) (now (plan .entry))
         (taskFor (jobOf (now (vehicles .entry)) (now (stops .entry)) locations (now (distances .entry)) prices) smoothing limit (now (draws .entry)))) ⌝ }
 {
@@ -147,6 +183,19 @@ fn run_call(
             smoothing,
             limit,
             draws,
+            plan,
+            out,
+        );
+    }
+    if 9 < call {
+        return run_vans(
+            call,
+            vehicles,
+            stops,
+            locations,
+            distances,
+            prices,
+            given,
             plan,
             out,
         );

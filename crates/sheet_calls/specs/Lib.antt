@@ -1,1 +1,2 @@
 pub mod Changing
+pub mod Moving

@@ -3,11 +3,12 @@ ghost use mathlib.Core.Path.{_≡_};
 ghost use mathlib.Core.List.{[], _∷_};
 ghost use lib.ListN.{length};
 ghost use Rattle.model.specs.Job.{jobOf};
-ghost use Rattle.model.specs.Refusals.{asking, Weigh, StartPlan, TwoOpt, Rebuild, Exhaustive, Pruned, Solve, Arrive, Cancel, unpriced, running};
-ghost use Rattle.model.specs.Calls.{costAnswer, startAnswer, planLeft, solveAnswer, liveAnswer};
+ghost use Rattle.model.specs.Refusals.{asking, Weigh, StartPlan, TwoOpt, Rebuild, Exhaustive, Pruned, Solve, Arrive, Cancel, MoveStop, unpriced, running, looking, tableless};
+ghost use Rattle.model.specs.Calls.{costAnswer, startAnswer, planLeft, solveAnswer, liveAnswer, viewAnswer, seenLeft, moveAnswer};
 ghost use Rattle.file_printing.specs.Printing.{Prints};
-ghost use Rattle.sheet_lines.specs.Printed.{printedWeight, printedStart, Printable, printedWeighed, printedSolved, printedChanged};
+ghost use Rattle.sheet_lines.specs.Printed.{printedWeight, printedStart, Printable, printedWeighed, printedSolved, printedChanged, printedViewed, printedMoved};
 ghost use Rattle.sheet_calls.specs.Changing.{liveOf, changing};
+ghost use Rattle.sheet_calls.specs.Moving.{carrying};
 use model::Prices;
 use model::Solved;
 use model::Weighed;
@@ -246,4 +247,58 @@ pub fn cancel(
         stop,
     );
     sheet_lines::print_changed(answer, plan, out)
+}
+
+// Writes what the holder of a set of vans sees of a plan, and prints the set of unplaced stops and that: how many bytes it is.
+pub fn view(
+    vehicles: &[u32],
+    stops: &[u32],
+    plan: &[u32],
+    vans: u32,
+    seen: &mut [u32],
+    out: &mut [u8],
+) -> usize
+    requires { ⌜ Printable (now seen) (now out) ⌝ }
+    ensures { λ r. ⌜ Prints (now (out .entry)) (now (out .exit)) r
+        (printedViewed (viewAnswer (looking (tableless (now (vehicles .entry)) (now (stops .entry))) (now (plan .entry)) vans (now (seen .entry)))) (now (seen .exit))) ⌝ }
+    ensures { λ _. ⌜ now (seen .exit) ≡ seenLeft (looking (tableless (now (vehicles .entry)) (now (stops .entry))) (now (plan .entry)) vans (now (seen .entry))) ⌝ }
+{
+    let answer = planner::view(vehicles, stops, plan, vans, seen);
+    sheet_lines::print_viewed(answer, seen, out)
+}
+
+// Moves a stop, and prints the change in cost and the plan.
+pub fn move_stop(
+    vehicles: &[u32],
+    stops: &[u32],
+    locations: u32,
+    distances: &[u32],
+    prices: Prices,
+    plan: &mut [u32],
+    given: &[u32],
+    out: &mut [u8],
+) -> usize
+    requires { ⌜ Printable (now plan) (now out) ⌝ }
+    requires { ⌜ length (now given) ≡ 4 ⌝ }
+    ensures { λ r. ⌜ Prints (now (out .entry)) (now (out .exit)) r
+        (printedMoved (moveAnswer (carrying (jobOf (now (vehicles .entry)) (now (stops .entry)) locations (now (distances .entry)) prices) (now (plan .entry)) (now (given .entry)))) (now (plan .exit))) ⌝ }
+    ensures { λ _. ⌜ now (plan .exit) ≡ planLeft MoveStop (carrying (jobOf (now (vehicles .entry)) (now (stops .entry)) locations (now (distances .entry)) prices) (now (plan .entry)) (now (given .entry))) ⌝ }
+{
+    let vans = given[0];
+    let stop = given[1];
+    let van = given[2];
+    let place = given[3];
+    let answer = planner::move_stop(
+        vehicles,
+        stops,
+        locations,
+        distances,
+        prices,
+        plan,
+        vans,
+        stop,
+        van,
+        place,
+    );
+    sheet_lines::print_moved(answer, plan, out)
 }

@@ -5,16 +5,16 @@ use native.Mathlib.Nat.{le-trans}
 use native.Mathlib.Omega.{arith}
 use mathlib.Core.Bool.{Bool, true, false, cond}
 use mathlib.Core.List.{List, [], _∷_, _++_}
-use lib.Dec.{eqb}
 use lib.ListN.{length, getD, length-append}
 use Rattle.model.specs.File.{line, Stands}
+use Rattle.model.proofs.Sufficient.{largest-at}
 use Rattle.model.proofs.Pieces.{none-over-nil, stands-within, part-at, join-at, part, join, Fitting, fitting, fitting-nil, fitting-cons, line-length, same-line}
 use Rattle.file_lines.specs.Standing.{over}
 use Rattle.sheet_head.specs.declared.Listed.{Listed}
 use Rattle.sheet_head.specs.declared.ListRead.{ListRead}
 use Rattle.sheet_head.specs.declared.ListRead.the-variants as L
 use Rattle.sheet_head.specs.declared.HeadRead.the-variants as H
-use Rattle.sheet_head.specs.Form.{changesLive, hasGiven, leastGiven, mostGiven, hasPlan, lineIf, headOf, ListFor, longestPlan}
+use Rattle.sheet_head.specs.Form.{lastCall, mostNumbers, hasGiven, leastGiven, mostGiven, hasPlan, lineIf, headOf, ListFor, longestPlan}
 use Rattle.sheet_head.specs.Reading.{Listing, ListAt, ListIf, Fits, Laid, CallAt, HeadOf, HeadAt}
 use Rattle.sheet_head.proofs.Lists.{same-list}
 
@@ -94,19 +94,14 @@ module _ (bytes : List ℕ) (at least most : ℕ) where
 
 -- at most eight numbers are given
 pub few-given : (call : ℕ) → mostGiven call ≤ 8
-few-given call = go (eqb call 3) (changesLive call)
-  where
-    go : (b c : Bool) → cond b 2 (cond c 3 8) ≤ 8
-    go true c = omega arith
-    go false true = omega arith
-    go false false = omega arith
+few-given call = largest-at mostNumbers call
 
 -- ---- all of them
 
-one-fitting : (n : ℕ) → n ≤ 9 → Fitting (n ∷ [])
+one-fitting : (n : ℕ) → n ≤ lastCall → Fitting (n ∷ [])
 one-fitting n l = fitting-cons (omega arith) fitting-nil
 
-call-length : (n : ℕ) → n ≤ 9 → length (line 14 (n ∷ [])) ≡ 15
+call-length : (n : ℕ) → n ≤ lastCall → length (line 14 (n ∷ [])) ≡ 15
 call-length n l = line-length (n ∷ []) (one-fitting n l)
 
 -- the position of the plan's line
@@ -119,7 +114,7 @@ module _ (bytes : List ℕ) (at : ℕ) where
     pub stops : Stands bytes (at + 15) (lineIf (hasGiven call) given)
     pub numbers : Stands bytes (planAt at call given) (lineIf (hasPlan call) plan)
 
-  module _ (call : ℕ) (given plan : List ℕ) (l : call ≤ 9) where
+  module _ (call : ℕ) (given plan : List ℕ) (l : call ≤ lastCall) where
     pub head-parts : Stands bytes at (headOf call given plan) → Parts call given plan
     unfolding headOf
     head-parts s =
@@ -138,7 +133,7 @@ module _ (bytes : List ℕ) (at : ℕ) where
     head-length = simp (length-append, call-length call l) (omega arith)
 
   -- one number stands there
-  same-call : (call n : ℕ) → call ≤ 9 → n ≤ 9 → Stands bytes at (line 14 (call ∷ [])) → Stands bytes at (line 14 (n ∷ [])) → n ≡ call
+  same-call : (call n : ℕ) → call ≤ lastCall → n ≤ lastCall → Stands bytes at (line 14 (call ∷ [])) → Stands bytes at (line 14 (n ∷ [])) → n ≡ call
   same-call call n l k s t =
       ap (λ ns. getD ns 0 0) (same-line bytes at (n ∷ []) (call ∷ []) (one-fitting n k) (one-fitting call l) refl t s)
 

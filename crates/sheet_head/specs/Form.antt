@@ -1,35 +1,44 @@
 -- The form of the lines before a sheet's job file. The calls' numbers are 1 weigh, 2 start_plan, 3 two_opt, 4 rebuild, 5 exhaustive, 6 pruned, 7 solve,
--- 8 arrive, 9 cancel.
+-- 8 arrive, 9 cancel, 10 view, 11 move_stop.
 use mathlib.Core.Path.{_≡_}
 use Prim.Native.Nat.{ℕ, _≤_}
-use mathlib.Core.Bool.{Bool, true, false, cond, _||_}
+use mathlib.Core.Bool.{Bool, true, false, _||_}
 use mathlib.Core.List.{List, [], _∷_, _++_}
-use lib.Dec.{eqb}
-use lib.ListN.{length}
+use lib.Dec.{eqb, ltb}
+use lib.ListN.{length, getD}
 use Rattle.model.specs.File.{line, NoneOver}
+use Rattle.model.specs.Refusals.{within}
 
--- 8 and 9 change the set of live stops
-abbrev pub changesLive : ℕ → Bool
-changesLive n = eqb n 8 || eqb n 9
+-- the last call's number
+abbrev pub lastCall : ℕ
+lastCall = 11
 
--- for 3, 4, 8 and 9 a line with given numbers: stops; for 8 and 9 a stop, and the low and the high 32 bits of the set of live stops
-abbrev pub hasGiven : ℕ → Bool
-hasGiven n = eqb n 3 || (eqb n 4 || changesLive n)
+-- how many numbers a call is given, by its number from 0 on: at least and at most so many
+abbrev pub leastNumbers : List ℕ
+leastNumbers = 0 ∷ 0 ∷ 0 ∷ 2 ∷ 0 ∷ 0 ∷ 0 ∷ 0 ∷ 3 ∷ 3 ∷ 1 ∷ 4 ∷ []
 
--- two of them for 3, none to eight for 4, three for 8 and 9
+abbrev pub mostNumbers : List ℕ
+mostNumbers = 0 ∷ 0 ∷ 0 ∷ 2 ∷ 8 ∷ 0 ∷ 0 ∷ 0 ∷ 3 ∷ 3 ∷ 1 ∷ 4 ∷ []
+
+-- two stops for 3; none to eight stops for 4; for 8 and 9 a stop, and the low and the high 32 bits of the set of live stops; for 10 a set of vans; for 11 such a
+-- set, a stop, a van and a place
 abbrev pub leastGiven : ℕ → ℕ
-leastGiven n = cond (eqb n 3) 2 (cond (changesLive n) 3 0)
+leastGiven n = getD leastNumbers n 0
 
 abbrev pub mostGiven : ℕ → ℕ
-mostGiven n = cond (eqb n 3) 2 (cond (changesLive n) 3 8)
+mostGiven n = getD mostNumbers n 0
+
+-- where there may be some, a line with them
+abbrev pub hasGiven : ℕ → Bool
+hasGiven n = ltb 0 (mostGiven n)
 
 -- the most numbers of a plan's line
 abbrev pub longestPlan : ℕ
 longestPlan = 96
 
--- for 1, 3, 4, 8 and 9 a line with the plan's numbers
+-- for 1, 3, 4 and 8 to 11 a line with the plan's numbers
 abbrev pub hasPlan : ℕ → Bool
-hasPlan n = eqb n 1 || (eqb n 3 || (eqb n 4 || changesLive n))
+hasPlan n = eqb n 1 || (eqb n 3 || (eqb n 4 || within 8 11 n))
 
 -- a line that is there, or is not
 abbrev pub lineIf : Bool → List ℕ → List ℕ

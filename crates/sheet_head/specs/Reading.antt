@@ -11,7 +11,7 @@ use Rattle.sheet_head.specs.declared.ListRead.the-variants as L
 use Rattle.sheet_head.specs.declared.Head.{Head}
 use Rattle.sheet_head.specs.declared.HeadRead.{HeadRead}
 use Rattle.sheet_head.specs.declared.HeadRead.the-variants as H
-use Rattle.sheet_head.specs.Form.{hasGiven, leastGiven, mostGiven, hasPlan, headOf, ListFor, longestPlan}
+use Rattle.sheet_head.specs.Form.{lastCall, hasGiven, leastGiven, mostGiven, hasPlan, headOf, ListFor, longestPlan}
 
 -- ---- a line of numbers
 
@@ -52,14 +52,14 @@ Laid bytes at count old new =
 
 -- the number of a call stands there, or 0 is answered where none does
 pub record CallAt (bytes : List ℕ) (at r : ℕ) : Type 0 where
-  pub last : r ≤ 9
+  pub last : r ≤ lastCall
   pub there : 1 ≤ r → Stands bytes at (line 14 (r ∷ []))
-  pub none : r ≡ 0 → (n : ℕ) → 1 ≤ n → n ≤ 9 → Stands bytes at (line 14 (n ∷ [])) → ⊥
+  pub none : r ≡ 0 → (n : ℕ) → 1 ≤ n → n ≤ lastCall → Stands bytes at (line 14 (n ∷ [])) → ⊥
 
 -- a call's number and its lines stand there; a plan that has no line is known without it
 pub record HeadOf (bytes : List ℕ) (at call : ℕ) (given plan known : List ℕ) : Type 0 where
   pub first : 1 ≤ call
-  pub last : call ≤ 9
+  pub last : call ≤ lastCall
   pub stops : ListFor (hasGiven call) (leastGiven call) (mostGiven call) [] given
   pub numbers : ListFor (hasPlan call) 0 longestPlan known plan
   pub stand : Stands bytes at (headOf call given plan)

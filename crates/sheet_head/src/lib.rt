@@ -1,8 +1,14 @@
 // What stands before the job file of a call sheet: the call's number, and its lines of given numbers and of a plan.
 use file_columns::Field;
 ghost use mathlib.Core.Path.{_≡_};
-ghost use Rattle.sheet_head.specs.Form.{changesLive, hasGiven, leastGiven, mostGiven, hasPlan, longestPlan};
+ghost use Prim.Native.Nat.{_≤_};
+ghost use Rattle.sheet_head.specs.Form.{lastCall, hasGiven, leastGiven, mostGiven, hasPlan, longestPlan};
 ghost use Rattle.sheet_head.specs.Reading.{CountAt, ListAt, ListIf, Fits, Laid, CallAt, Lent, HeadAt};
+
+// How many numbers a call is given, by its number from 0 on: at least and at most so many.
+const LEAST_GIVEN: [usize; 12] = [0, 0, 0, 2, 0, 0, 0, 0, 3, 3, 1, 4];
+
+const MOST_GIVEN: [usize; 12] = [0, 0, 0, 2, 8, 0, 0, 0, 3, 3, 1, 4];
 
 // A line of numbers that was read: how many there are, and the position after it.
 pub struct Listed {
@@ -62,30 +68,16 @@ fn check_list(bytes: &[u8], at: usize, least: usize, most: usize) -> ListRead
     })
 }
 
-// Whether a call changes the set of live stops: arrive and cancel.
-fn changes_live(call: u32) -> bool
-    ensures { λ r. ⌜ r ≡ changesLive call ⌝ }
-{
-    if call == 8 {
-        return true;
-    }
-    call == 9
-}
-
 // The given numbers of a call, where it has a line with them.
 fn check_given(bytes: &[u8], at: usize, call: u32) -> ListRead
+    requires { ⌜ call ≤ lastCall ⌝ }
     ensures { λ r. ⌜ ListIf (hasGiven call) (now (bytes .entry)) at (leastGiven call) (mostGiven call) r ⌝ }
 {
-    if call == 3 {
-        return check_list(bytes, at, 2, 2);
+    let most = MOST_GIVEN[call as usize];
+    if most == 0 {
+        return ListRead::Read(Listed { count: 0, end: at });
     }
-    if call == 4 {
-        return check_list(bytes, at, 0, 8);
-    }
-    if changes_live(call) {
-        return check_list(bytes, at, 3, 3);
-    }
-    ListRead::Read(Listed { count: 0, end: at })
+    check_list(bytes, at, LEAST_GIVEN[call as usize], most)
 }
 
 // Whether a call has a line with the plan's numbers.
@@ -98,10 +90,13 @@ pub fn has_plan(call: u32) -> bool
     if call == 3 {
         return true;
     }
-    if changes_live(call) {
+    if call == 4 {
         return true;
     }
-    call == 4
+    if call < 8 {
+        return false;
+    }
+    call <= 11
 }
 
 // The numbers of a call's plan, where it has a line with them.
@@ -125,7 +120,7 @@ fn fill_list(bytes: &[u8], at: usize, count: usize, list: &mut [u32])
     file_lines::fill_lines(bytes, at, 1, count, list);
 }
 
-// The call's number in the line at a position, 0 where none of the nine stands there.
+// The call's number in the line at a position, 0 where none of the eleven stands there.
 fn read_call(bytes: &[u8], at: usize) -> u32
     ensures { λ r. ⌜ CallAt (now (bytes .entry)) at r ⌝ }
 {
@@ -133,7 +128,7 @@ fn read_call(bytes: &[u8], at: usize) -> u32
         return 0;
     }
     let call = file_columns::number_at(bytes, at);
-    if 9 < call {
+    if 11 < call {
         return 0;
     }
     call

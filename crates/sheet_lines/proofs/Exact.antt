@@ -16,7 +16,8 @@ use Rattle.model.specs.Cost.{cost}
 use Rattle.model.specs.Live.{liveCost}
 use Rattle.model.specs.Refusals.{Arguments, naming, Call, Arrive, Cancel, refusal}
 use Rattle.model.specs.Calls.{made, newLive, weighed, changed, costAnswer, liveAnswer}
-use Rattle.planner.proofs.Exact.{countsAll, made-exact, arrival-exact, cancellation-exact}
+use Rattle.planner.proofs.Exact.{countsAll, made-exact}
+use Rattle.planner_live.proofs.Exact.{arrival-exact, cancellation-exact}
 use Rattle.sheet_lines.specs.Printed.{Exactly, StandsExactly}
 
 some-cost : (x y : ℕ) (c : Float) → weighed x y ≡ W.Cost c → (x ≡ 0) × (c ≡ whole y)

@@ -1,13 +1,20 @@
 -- From what is printed for the answer that code has to what is printed for the definition's.
-use mathlib.Core.Path.{_≡_, subst}
+use mathlib.Core.Path.{_≡_, sym, subst}
 use mathlib.Core.List.{List}
 use Prim.Native.Nat.{ℕ}
+use lib.IntN.{ℤ}
+use mir.Syntax.{w64}
+use mir.Val.{SFits, ofZ, toZ}
+use mir.ValLaws.{toZ-ofZ}
 use Rattle.model.specs.declared.Weighed.{Weighed}
 use Rattle.model.specs.declared.Written.{Written}
 use Rattle.model.specs.declared.Solved.{Solved}
 use Rattle.model.specs.declared.Changed.{Changed}
+use Rattle.model.specs.declared.Viewed.{Viewed}
+use Rattle.model.specs.declared.Moved.{Moved}
+use Rattle.model.specs.declared.Moved.the-variants as M
 use Rattle.file_printing.specs.Printing.{Prints}
-use Rattle.sheet_lines.specs.Printed.{printedWeight, printedStart, printedWeighed, printedSolved, printedChanged}
+use Rattle.sheet_lines.specs.Printed.{printedWeight, printedStart, printedWeighed, printedSolved, printedChanged, printedViewed, printedMoved}
 
 module _ (old new : List ℕ) (r : ℕ) where
   pub shown-weight : (a b : Weighed) → a ≡ b → Prints old new r (printedWeight a) → Prints old new r (printedWeight b)
@@ -25,3 +32,15 @@ module _ (old new : List ℕ) (r : ℕ) where
 
     pub shown-changed : (a b : Changed) → a ≡ b → Prints old new r (printedChanged a plan) → Prints old new r (printedChanged b plan)
     shown-changed a b e = subst (λ (x : Changed). Prints old new r (printedChanged x plan)) e
+
+    pub shown-viewed : (a b : Viewed) → a ≡ b → Prints old new r (printedViewed a plan) → Prints old new r (printedViewed b plan)
+    shown-viewed a b e = subst (λ (x : Viewed). Prints old new r (printedViewed x plan)) e
+
+    pub shown-moved : (a b : Moved) → a ≡ b → Prints old new r (printedMoved a plan) → Prints old new r (printedMoved b plan)
+    shown-moved a b e = subst (λ (x : Moved). Prints old new r (printedMoved x plan)) e
+
+    -- a change that is read back from its bits is the same
+    pub shown-change : (z : ℤ) (a : Moved) → SFits w64 z → a ≡ M.Change z → Prints old new r (printedMoved (M.Change (toZ w64 (ofZ w64 z))) plan)
+        → Prints old new r (printedMoved a plan)
+    shown-change z a f e p =
+        shown-moved (M.Change z) a (sym e) (subst (λ x. Prints old new r (printedMoved (M.Change x) plan)) (toZ-ofZ w64 z f) p)

@@ -13,10 +13,14 @@ use Rattle.model.specs.declared.Solved.the-variants as S
 use Rattle.model.specs.declared.Standing.{Standing}
 use Rattle.model.specs.declared.Changed.{Changed}
 use Rattle.model.specs.declared.Changed.the-variants as C
+use Rattle.model.specs.declared.Viewed.{Viewed}
+use Rattle.model.specs.declared.Viewed.the-variants as Seen
+use Rattle.model.specs.declared.Moved.{Moved}
+use Rattle.model.specs.declared.Moved.the-variants as M
 use Rattle.model.specs.Whole.{IsWhole}
 use Rattle.model.specs.File.{line, printedRefusal}
 use Rattle.file_printing.specs.Printing.{printedTotals}
-use Rattle.sheet_printing.specs.Costs.{printedCost, printedStanding}
+use Rattle.sheet_printing.specs.Costs.{printedCost, printedStanding, printedSet, printedChange}
 use Rattle.sheet_head.specs.Form.{longestPlan}
 
 -- of weigh: the cost
@@ -43,6 +47,16 @@ printedSolved (S.Ran t) plan = printedTotals t ++ line 14 plan
 abbrev pub printedChanged : Changed → List ℕ → List ℕ
 printedChanged (C.Refused number) plan = printedRefusal number
 printedChanged (C.Stands t) plan = printedStanding t ++ line 14 plan
+
+-- of view: the set of unplaced stops, and what is seen of the plan
+abbrev pub printedViewed : Viewed → List ℕ → List ℕ
+printedViewed (Seen.Refused number) seen = printedRefusal number
+printedViewed (Seen.Unplaced set) seen = printedSet set ++ line 14 seen
+
+-- of move_stop: the change in cost and the plan
+abbrev pub printedMoved : Moved → List ℕ → List ℕ
+printedMoved (M.Refused number) plan = printedRefusal number
+printedMoved (M.Change z) plan = printedChange z ++ line 14 plan
 
 -- the most that is printed for a sheet: the numbers of a run and a plan
 abbrev pub mostForSheet : ℕ

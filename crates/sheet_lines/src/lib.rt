@@ -1,7 +1,9 @@
 // What is printed for the answer of a single call.
 ghost use Rattle.file_printing.specs.Printing.{Prints};
-ghost use Rattle.sheet_lines.specs.Printed.{printedWeighed, printedChanged, Printable, Exactly, StandsExactly};
+ghost use Rattle.sheet_lines.specs.Printed.{printedWeighed, printedChanged, printedViewed, printedMoved, Printable, Exactly, StandsExactly};
 use model::Changed;
+use model::Moved;
+use model::Viewed;
 use model::Weighed;
 
 // A cost and a plan, or a refusal.
@@ -25,5 +27,27 @@ pub fn print_changed(answer: Changed, plan: &[u32], out: &mut [u8]) -> usize
     match answer {
         Changed::Refused(number) => file_printing::print_refusal(number, out),
         Changed::Stands(t) => sheet_printing::print_standing_and_list(t, plan, out),
+    }
+}
+
+// A set of unplaced stops and what is seen of a plan, or a refusal.
+pub fn print_viewed(answer: Viewed, seen: &[u32], out: &mut [u8]) -> usize
+    requires { ⌜ Printable (now seen) (now out) ⌝ }
+    ensures { λ r. ⌜ Prints (now (out .entry)) (now (out .exit)) r (printedViewed answer (now (seen .entry))) ⌝ }
+{
+    match answer {
+        Viewed::Refused(number) => file_printing::print_refusal(number, out),
+        Viewed::Unplaced(set) => sheet_printing::print_set_and_list(set, seen, out),
+    }
+}
+
+// A change in cost and a plan, or a refusal.
+pub fn print_moved(answer: Moved, plan: &[u32], out: &mut [u8]) -> usize
+    requires { ⌜ Printable (now plan) (now out) ⌝ }
+    ensures { λ r. ⌜ Prints (now (out .entry)) (now (out .exit)) r (printedMoved answer (now (plan .entry))) ⌝ }
+{
+    match answer {
+        Moved::Refused(number) => file_printing::print_refusal(number, out),
+        Moved::Change(z) => sheet_printing::print_change_and_list(z, plan, out),
     }
 }

@@ -1,4 +1,4 @@
--- Lines of numbers in 14 columns, the line of a cost, and the line of live stops and a cost.
+-- Lines of numbers in 14 columns, the line of a cost, the line of live stops and a cost, the lines of a set of stops and of a change.
 use mathlib.Core.Path.{_≡_, sym, _∙_, ap}
 use mathlib.Core.List.{List, [], _∷_, _++_, append-nil, append-assoc}
 use Prim.Native.Nat.{ℕ, _+_, _*_, _^_, _≤_, _<_}
@@ -6,17 +6,22 @@ use native.Mathlib.Nat.{zero-add}
 use native.Mathlib.Numerals.{add-one}
 use native.Mathlib.Omega.{arith}
 use lib.Ieee.{Float}
+use lib.IntN.{ℤ}
 use lib.ListN.{length, take, getD, set, length-append, length-take}
 use lib.Seq.{take-suc, take-all}
+use mir.Syntax.{w32, w64}
+use mir.Val.{Fits, SFits, ofZ, toZ}
+use mir.ValLaws.{toZ-ofZ}
 use Rattle.model.specs.declared.Standing.{Standing}
 use Rattle.model.specs.Whole.{amount}
-use Rattle.model.specs.File.{lineFeed, columns, fields, line, printedRefusal}
+use Rattle.model.specs.File.{lineFeed, columns, signedColumns, fields, line, printedRefusal}
 use Rattle.model.proofs.Columns.{columns-length}
-use Rattle.model.proofs.Pieces.{Fitting, fitting-take, fields-length, fields-one, fields-append}
+use Rattle.model.proofs.Pieces.{Fitting, fitting-take, fields-length, fields-one, fields-append, line-length}
 use Rattle.file_columns.specs.Put.{written}
 use Rattle.file_columns.proofs.Puts.{written-nil}
+use Rattle.file_columns.proofs.Signs.{signed-length}
 use Rattle.file_printing.specs.Printing.{Prints}
-use Rattle.sheet_printing.specs.Costs.{printedCost, printedStanding}
+use Rattle.sheet_printing.specs.Costs.{printedCost, printedStanding, printedSet, printedChange}
 use Rattle.file_printing.proofs.Pieces.{after, line-feed, amount-small, refusal-printed}
 
 module _ (old : List ℕ) (at : ℕ) (list : List ℕ) (f : Fitting list) (room : at + (14 * length list + 1) ≤ length old) where
@@ -52,6 +57,29 @@ pub cost-length : (c : Float) → length (printedCost c) ≡ 21
 unfolding printedCost line fields
 cost-length c = simp (length-append, append-nil, columns-length 19 (amount c) (amount-small c))
 
+pub set-line : (n : ℕ) (old a : List ℕ) → n < 10 ^ 20 → 21 ≤ length old → a ≡ written old 0 (columns 20 n) → set a 20 lineFeed ≡ written old 0 (printedSet n)
+unfolding printedSet printedRefusal
+set-line n old a small room e = refusal-printed n old a small room e .same
+
+pub set-length : (n : ℕ) → n < 10 ^ 20 → length (printedSet n) ≡ 21
+unfolding printedSet line fields
+set-length n small = simp (length-append, append-nil, columns-length 19 n small)
+
+-- a change that is read back from its bits is the same
+pub change-line : (z : ℤ) (old a : List ℕ) → SFits w64 z → 21 ≤ length old → a ≡ written old 0 (signedColumns 20 (toZ w64 (ofZ w64 z)))
+    → set a 20 lineFeed ≡ written old 0 (printedChange z)
+unfolding printedChange
+change-line z old a f room e =
+    line-feed old a 0 20 (signedColumns 20 z) (signed-length z (f .sfits)) (omega arith) (e ∙ ap (λ x. written old 0 (signedColumns 20 x)) (toZ-ofZ w64 z f))
+
+pub change-length : (z : ℤ) → SFits w64 z → length (printedChange z) ≡ 21
+unfolding printedChange
+change-length z f = simp (length-append, signed-length z (f .sfits))
+
+-- and so is its line
+pub change-back : (z : ℤ) (old a : List ℕ) → SFits w64 z → a ≡ written old 0 (printedChange (toZ w64 (ofZ w64 z))) → a ≡ written old 0 (printedChange z)
+change-back z old a f e = e ∙ ap (λ x. written old 0 (printedChange x)) (toZ-ofZ w64 z f)
+
 pub standing-line : (t : Standing) (w : ℕ) (old a b : List ℕ) → t .live < 10 ^ 20 → w ≡ amount (t .cost) → 41 ≤ length old
     → a ≡ written old 0 (columns 20 (t .live)) → b ≡ written a 20 (columns 20 w) → set b 40 lineFeed ≡ written old 0 (printedStanding t)
 unfolding printedStanding line fields
@@ -78,3 +106,10 @@ two-pieces old a new first second j k r l m h room e g =
       count = omega (arith, length-append first second);
       same = after old a new 0 j first second l (omega arith) e (rw zero-add g);
     }
+
+-- a line of 21 bytes and a plan
+pub line-and-list : (old a new text list : List ℕ) (r : ℕ) → ((i : ℕ) → Fits w32 (getD list i 0)) → length text ≡ 21 → r ≡ 14 * length list + 22
+    → 14 * length list + 22 ≤ length old → a ≡ written old 0 text → new ≡ written a 21 (line 14 list) → Prints old new r (text ++ line 14 list)
+line-and-list old a new text list r small l h room e g =
+    let f : Fitting list = record { fits = λ i. omega (arith, small i .fits) } in
+    two-pieces old a new text (line 14 list) 21 (14 * length list + 1) r l (line-length list f) (omega arith) (omega arith) e g

@@ -1,10 +1,11 @@
--- What is printed of a cost, and of what stands after a change.
+-- What is printed of a cost, of what stands after a change, of a set of stops, and of a change in cost.
 use Prim.Native.Nat.{ℕ}
-use mathlib.Core.List.{List, [], _∷_}
+use mathlib.Core.List.{List, [], _∷_, _++_}
+use lib.IntN.{ℤ}
 use lib.Ieee.{Float}
 use Rattle.model.specs.declared.Standing.{Standing}
 use Rattle.model.specs.Whole.{amount}
-use Rattle.model.specs.File.{line}
+use Rattle.model.specs.File.{lineFeed, line, signedColumns}
 
 -- the line of a cost
 unfoldable pub printedCost : Float → List ℕ
@@ -13,3 +14,11 @@ printedCost c = line 20 (amount c ∷ [])
 -- the line of a set of live stops and a cost
 unfoldable pub printedStanding : Standing → List ℕ
 printedStanding t = line 20 (t .live ∷ amount (t .cost) ∷ [])
+
+-- the line of a set of stops
+unfoldable pub printedSet : ℕ → List ℕ
+printedSet set = line 20 (set ∷ [])
+
+-- the line of a change in cost, with its sign
+unfoldable pub printedChange : ℤ → List ℕ
+printedChange z = signedColumns 20 z ++ (lineFeed ∷ [])

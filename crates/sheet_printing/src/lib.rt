@@ -1,4 +1,5 @@
-// The lines that the program prints for the answer of a single call: a cost, a plan, the numbers of a run, live stops and a cost.
+// The lines that the program prints for the answer of a single call: a cost, a plan, the numbers of a run, live stops and a cost, a set of
+// stops, a change in cost.
 use model::Standing;
 use model::Totals;
 ghost use mathlib.Core.Path.{_≡_};
@@ -9,7 +10,7 @@ ghost use Rattle.model.specs.File.{line};
 ghost use Rattle.model.specs.Whole.{IsWhole};
 ghost use Rattle.file_columns.specs.Put.{written};
 ghost use Rattle.file_printing.specs.Printing.{printedTotals, Priced, Prints};
-ghost use Rattle.sheet_printing.specs.Costs.{printedCost, printedStanding};
+ghost use Rattle.sheet_printing.specs.Costs.{printedCost, printedStanding, printedSet, printedChange};
 
 // A line of numbers in 14 columns each, from a position on.
 fn put_list(out: &mut [u8], at: usize, list: &[u32])
@@ -45,6 +46,34 @@ fn put_standing(out: &mut [u8], t: Standing)
     out[40] = b'\n';
 }
 
+// The line of a set of stops.
+fn put_set(out: &mut [u8], set: u64)
+    requires { ⌜ 21 ≤ length (now out) ⌝ }
+    ensures { λ _. ⌜ now (out .exit) ≡ written (now (out .entry)) 0 (printedSet set) ⌝ }
+{
+    file_columns::put_number(out, 0, 20, set);
+    out[20] = b'\n';
+}
+
+// The line of a change in cost.
+fn put_change(out: &mut [u8], change: i64)
+    requires { ⌜ 21 ≤ length (now out) ⌝ }
+    ensures { λ _. ⌜ now (out .exit) ≡ written (now (out .entry)) 0 (printedChange change) ⌝ }
+{
+    file_columns::put_signed(out, 0, change);
+    out[20] = b'\n';
+}
+
+// A plan after a line of one number: how many bytes both are.
+fn put_list_after(out: &mut [u8], list: &[u32]) -> usize
+    requires { ⌜ 14 * length (now list) + 22 ≤ length (now out) ⌝ }
+    ensures { λ _. ⌜ now (out .exit) ≡ written (now (out .entry)) 21 (line 14 (now (list .entry))) ⌝ }
+    ensures { λ r. ⌜ r ≡ 14 * length (now (list .entry)) + 22 ⌝ }
+{
+    put_list(out, 21, list);
+    14 * list.len() + 22
+}
+
 // What is printed for a cost alone: how many bytes it is.
 pub fn print_cost(c: f64, out: &mut [u8]) -> usize
     requires { ⌜ 21 ≤ length (now out) ⌝ }
@@ -71,8 +100,7 @@ pub fn print_cost_and_list(c: f64, list: &[u32], out: &mut [u8]) -> usize
     ensures { λ r. ⌜ Prints (now (out .entry)) (now (out .exit)) r (printedCost c ++ line 14 (now (list .entry))) ⌝ }
 {
     put_cost(out, c);
-    put_list(out, 21, list);
-    14 * list.len() + 22
+    put_list_after(out, list)
 }
 
 // For the numbers of a run and a plan.
@@ -95,4 +123,22 @@ pub fn print_standing_and_list(t: Standing, list: &[u32], out: &mut [u8]) -> usi
     put_standing(out, t);
     put_list(out, 41, list);
     14 * list.len() + 42
+}
+
+// For a set of stops and a plan.
+pub fn print_set_and_list(set: u64, list: &[u32], out: &mut [u8]) -> usize
+    requires { ⌜ 14 * length (now list) + 22 ≤ length (now out) ⌝ }
+    ensures { λ r. ⌜ Prints (now (out .entry)) (now (out .exit)) r (printedSet set ++ line 14 (now (list .entry))) ⌝ }
+{
+    put_set(out, set);
+    put_list_after(out, list)
+}
+
+// For a change in cost and a plan.
+pub fn print_change_and_list(change: i64, list: &[u32], out: &mut [u8]) -> usize
+    requires { ⌜ 14 * length (now list) + 22 ≤ length (now out) ⌝ }
+    ensures { λ r. ⌜ Prints (now (out .entry)) (now (out .exit)) r (printedChange change ++ line 14 (now (list .entry))) ⌝ }
+{
+    put_change(out, change);
+    put_list_after(out, list)
 }

@@ -22,7 +22,7 @@ use Rattle.file_job.specs.Reading.{headerOf, Buffers, Room, ReadWhole, Holds}
 use Rattle.file_job.specs.declared.TaskRead.{TaskRead}
 use Rattle.file_job.specs.declared.TaskRead.the-variants as R
 use Rattle.file_printing.specs.Printing.{Prints}
-use Rattle.shuttle_answers.specs.Answers.{Runnable, Ready, mostForFile, TaskPrints, Answers}
+use Rattle.shuttle_answers.specs.Answers.{Runnable, Ready, mostForFile, TaskPrints, Answers, Printed}
 
 -- ---- what is printed of a run
 
@@ -97,3 +97,7 @@ pub no-file-answers : (bytes : List ℕ) (old new : Buffers) (a : TaskRead) → 
 no-file-answers bytes old new a read number e out printed r l p =
     let no : ReadWhole bytes old new (R.Refused number) = rw e at read in
     record { accepted = λ T t. absurd (no .2 T t); within = prints-within out printed r (printedRefusal 14) p l; refused = λ _. p }
+
+-- where the answer of some bytes is printed, as many bytes are
+pub answers-printed : (bytes old new : List ℕ) (r : ℕ) → Answers bytes old new r → Printed r
+answers-printed bytes old new r A = record { bytes = bytes; accepted = λ T h. A .accepted T h .count; refused = λ none. A .refused none .count }

@@ -41,3 +41,9 @@ pub record Answers (bytes old new : List ℕ) (r : ℕ) : Type 0 where
   pub accepted : (T : Task) → Accepted bytes T → Prints old new r (printedTask T)
   pub within : r ≤ length old
   pub refused : ((T : Task) → Accepted bytes T → ⊥) → Prints old new r (printedRefusal 14)
+
+-- some bytes were read, and as many are printed as their answer has: that of their task, or refusal 14 where they are no file
+pub record Printed (r : ℕ) : Type 0 where
+  pub bytes : List ℕ
+  pub accepted : (T : Task) → Accepted bytes T → r ≡ length (printedTask T)
+  pub refused : ((T : Task) → Accepted bytes T → ⊥) → r ≡ length (printedRefusal 14)

@@ -5,6 +5,8 @@ use file_job::TaskRead;
 use libc::STDOUT_FILENO;
 use model::Prices;
 use model::Solved;
+ghost use mathlib.Core.Path.{_≡_};
+ghost use mathlib.Core.Logic.{_⊎_};
 ghost use Prim.Native.Nat.{_≤_};
 ghost use lib.ListN.{length};
 ghost use Rattle.model.specs.File.{printedTask};
@@ -12,7 +14,7 @@ ghost use Rattle.model.specs.Run.{taskFor};
 ghost use Rattle.model.specs.Job.{jobOf};
 ghost use Rattle.file_job.specs.Reading.{buffers};
 ghost use Rattle.file_printing.specs.Printing.{Prints};
-ghost use Rattle.shuttle_answers.specs.Answers.{mostForFile, Runnable, Ready, TaskPrints, Answers};
+ghost use Rattle.shuttle_answers.specs.Answers.{mostForFile, Runnable, Ready, TaskPrints, Answers, Printed};
 
 // Runs a task and prints the answer: how many bytes it is.
 fn run(
@@ -106,17 +108,22 @@ fn answer(bytes: &[u8], out: &mut [u8]) -> usize
     run_task(h, &vehicles, &stops, &distances, &draws, &mut plan, out)
 }
 
-// Writes what is printed for the file of a descriptor to standard output. Its name is for the message where reading fails.
-pub fn print_answer(fd: i32, name: &[u8]) {
+// Writes what is printed for the file of a descriptor to standard output: how many bytes it is, and 0 where reading or writing fails.
+// Its name is for the message where reading fails.
+pub fn print_answer(fd: i32, name: &[u8]) -> usize
+    ensures { λ r. ⌜ (r ≡ 0) ⊎ Printed r ⌝ }
+{
     // one byte more than the longest job file has, so that a longer one is seen not to end there
     let mut bytes = [0u8; 106593];
     let Filled::Bytes(n) = file_input::fill(fd, &mut bytes, 0) else {
         os::fail(name);
-        return;
+        return 0;
     };
     let mut out = [0u8; 677];
     let m = answer(&bytes[0..n], &mut out);
     if !io::write_all(STDOUT_FILENO, &out[0..m]) {
         os::fail(b"standard output");
+        return 0;
     }
+    m
 }

@@ -312,3 +312,24 @@ first-lower set s h = subst Increasing (h .list) (stops-increasing set) .0
 -- a set that it is taken out of is smaller
 pub first-less : (set s rest : ℕ) → First set s → rest ≡ excluding s set → length (stopsOf rest) < length (stopsOf set)
 first-less set s rest h e = omega (arith, ap length (h .list), ap (λ (x : ℕ). length (stopsOf x)) e)
+
+-- ---- lists that hold the same numbers in increasing order are the same
+
+pub same-increasing : (a b : List ℕ) → Increasing a → Increasing b → ((x : ℕ) → count x a ≡ count x b) → a ≡ b
+same-increasing [] [] i j e = refl
+same-increasing [] (y ∷ b) i j e = absurd (omega (arith, one-same y y refl, e y))
+same-increasing (x ∷ a) [] i j e = absurd (omega (arith, one-same x x refl, e x))
+same-increasing (x ∷ a) (y ∷ b) i j e = ap₂ {C = List ℕ} (λ (z : ℕ) (l : List ℕ). z ∷ l) p (same-increasing a b (i .1) (j .1) rest)
+  where
+    p : x ≡ y
+    p =
+        elim (ℕ-discrete x y) [
+          | yes q ↦ q
+          | no f ↦
+              let under : y < x = j .0 x (omega (arith, one-same x x refl, one-other x y f, e x)) in
+              let over : x < y = i .0 y (omega (arith, one-same y y refl, one-other y x (λ q. f (sym q)), e y)) in
+              absurd (omega arith)
+        ]
+
+    rest : (z : ℕ) → count z a ≡ count z b
+    rest z = omega (arith, e z, ap (λ (w : ℕ). count z (w ∷ b)) p)

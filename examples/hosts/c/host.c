@@ -125,6 +125,35 @@ static void show_cancel(uint32_t stop)
     show_change("cancel", before, refused, cost);
 }
 
+/* a view for a caller who holds a set of vans; the list that it is written to is 7 7 7 before it */
+static void show_view(uint32_t vans)
+{
+    uint64_t unplaced = 7;
+    uint32_t seen[] = {7, 7, 7};
+    uint32_t refused = planner_view(vehicles, COUNT(vehicles), stops, COUNT(stops), plan, COUNT(plan), vans, seen, COUNT(seen), &unplaced);
+    if (refused && (unplaced != 7 || seen[0] != 7 || seen[1] != 7 || seen[2] != 7))
+        abort();
+    if (refused)
+        printf("view refused %" PRIu32, refused);
+    else
+        printf("view unplaced %" PRIu64 " seen %" PRIu32 " %" PRIu32 " %" PRIu32, unplaced, seen[0], seen[1], seen[2]);
+    show_plan();
+}
+
+/* a move of stop 1 to a place of van 0, for a caller who holds that van */
+static void show_move(uint32_t place)
+{
+    int64_t change = 7;
+    uint32_t refused = planner_move_stop(LISTS, PRICES, plan, COUNT(plan), 1, 1, 0, place, &change);
+    if (refused && change != 7)
+        abort();
+    if (refused)
+        printf("move_stop refused %" PRIu32, refused);
+    else
+        printf("move_stop change %" PRId64, change);
+    show_plan();
+}
+
 int main(void)
 {
     const uint32_t both[] = {0, 1};
@@ -145,5 +174,12 @@ int main(void)
     show_cancel(1); /* no longer live: refused */
     show_arrive(1);
     show_arrive(1); /* live already: refused */
+    show_view(1);
+    show_move(1); /* to the end of its route */
+    show_move(2); /* beyond the end: refused */
+    show_cancel(1);
+    show_view(0); /* without a van: no route is seen */
+    show_view(2); /* there is no van 1: refused */
+    show_move(0); /* from no route */
     return 0;
 }

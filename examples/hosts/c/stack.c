@@ -40,6 +40,22 @@ static void arrive(void)
     refused = planner_arrive(LISTS(fleet, STOPS), PRICES, plan, fleet + STOPS, live, 0, &live, &cost);
 }
 
+/* of the stop at the end of the last vehicle's route, to the front of the first's; a caller holds all vans */
+static uint32_t seen[VEHICLES + STOPS];
+static uint64_t unplaced;
+static uint32_t all(void) { return (1u << fleet) - 1; }
+
+static void view(void)
+{
+    refused = planner_view(vehicles, 2 * fleet, stops, STOPS, plan, fleet + STOPS, all(), seen, fleet + STOPS, &unplaced);
+}
+
+static void move_stop(void)
+{
+    int64_t change;
+    refused = planner_move_stop(LISTS(fleet, STOPS), PRICES, plan, fleet + STOPS, all(), plan[fleet + STOPS - 1], 0, 0, &change);
+}
+
 static void rebuild(void)
 {
     uint32_t given[] = {1, 0};
@@ -108,5 +124,7 @@ int main(void)
     report("solve", solve);
     report("arrive", arrive);
     report("cancel", cancel);
+    report("view", view);
+    report("move_stop", move_stop);
     return 0;
 }

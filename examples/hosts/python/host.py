@@ -53,6 +53,26 @@ def show_run(limit, plan):
     return show("solve", answer, plan)
 
 
+def show_view(vans, plan):
+    """A view for a caller who holds a set of vans."""
+
+    def answer():
+        seen = planner.view(JOB, plan, vans)
+        return f" unplaced {seen.unplaced} seen {' '.join(map(str, seen.plan))}", plan
+
+    show("view", answer, plan)
+
+
+def show_move(place, plan):
+    """A move of stop 1 to a place of van 0, for a caller who holds that van."""
+
+    def answer():
+        moved = planner.move_stop(JOB, plan, vans=1, stop=1, van=0, place=place)
+        return f" change {moved.change}", moved.plan
+
+    return show("move_stop", answer, plan)
+
+
 def show_start_plan(plan):
     return show("start_plan", lambda: ("", planner.start_plan(JOB)), plan)
 
@@ -74,4 +94,11 @@ live = 3  # both stops
 live, plan = show_change("cancel", planner.cancel, live, plan)
 live, plan = show_change("cancel", planner.cancel, live, plan)  # no longer live: refused
 live, plan = show_change("arrive", planner.arrive, live, plan)
-show_change("arrive", planner.arrive, live, plan)  # live already: refused
+live, plan = show_change("arrive", planner.arrive, live, plan)  # live already: refused
+show_view(1, plan)
+plan = show_move(1, plan)  # to the end of its route
+plan = show_move(2, plan)  # beyond the end: refused
+live, plan = show_change("cancel", planner.cancel, live, plan)
+show_view(0, plan)  # without a van: no route is seen
+show_view(2, plan)  # there is no van 1: refused
+show_move(0, plan)  # from no route

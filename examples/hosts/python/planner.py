@@ -14,10 +14,14 @@
     Traceback (most recent call last):
         ...
     planner.Refused: refused, 12: a given stop does not exist, the given stops are equal, or (rebuild) they are not one or two
+    >>> planner.move_stop(job, run.plan, vans=1, stop=1, van=0, place=1)  # for a caller who holds van 0
+    Moved(change=14, plan=[2, 0, 1])
+    >>> planner.view(job, run.plan, vans=1)
+    View(unplaced=0, plan=[2, 1, 0])
 
 A plan is a list of a number for each vehicle and each stop: the lengths of the routes, then the stops of route 0, route 1 and
-so on, then UNUSED in each place that is left. A set of stops is one number, stop 0 its lowest bit. Costs are whole numbers. No
-list that is passed is changed.
+so on, then UNUSED in each place that is left. A set of stops is one number, stop 0 its lowest bit, and a set of vans likewise. Costs
+are whole numbers. No list that is passed is changed.
 
 A call that the library refuses raises Refused, with the number of the table in include/planner.h and its sentence. A number
 that 32 bits (for `missed` and `live`: 64) do not hold raises OverflowError, as the library could not be handed it.
@@ -32,8 +36,8 @@ from dataclasses import dataclass
 from pathlib import Path
 
 __all__ = [
-    "UNUSED", "Job", "Refused", "Run", "Standing", "Weighed",
-    "arrive", "cancel", "exhaustive", "pruned", "rebuild", "routes", "solve", "start_plan", "two_opt", "weigh",
+    "UNUSED", "Job", "Moved", "Refused", "Run", "Standing", "View", "Weighed",
+    "arrive", "cancel", "exhaustive", "move_stop", "pruned", "rebuild", "routes", "solve", "start_plan", "two_opt", "view", "weigh",
 ]  # fmt: skip
 
 ROOT = Path(__file__).resolve().parents[3]
@@ -87,6 +91,24 @@ class Standing:
 
     live: int
     cost: int
+    plan: list
+
+
+@dataclass
+class View:
+    """What a caller sees who holds a set of vans: the set of the stops that are on no route, and the plan with the routes of other
+    vans emptied."""
+
+    unplaced: int
+    plan: list
+
+
+@dataclass
+class Moved:
+    """What a move answers: the change in the cost of the caller's vans and of the missed stops, which is below 0 where the plan has
+    become cheaper, and the plan."""
+
+    change: int
     plan: list
 
 
@@ -159,6 +181,21 @@ def cancel(job, plan, live, stop):
     return _standing("planner_cancel", job, plan, live, stop)
 
 
+def view(job, plan, vans):
+    """What a caller sees of a plan who holds the vans of the set `vans`."""
+    seen, unplaced = _unused(job), ctypes.c_uint64()
+    _call("planner_view", *_lists(job), *_list(plan), vans, *_list(seen), unplaced)
+    return View(unplaced.value, seen.tolist())
+
+
+def move_stop(job, plan, vans, stop, van, place):
+    """The plan after a move of a stop by a caller who holds the vans of the set `vans`: from the route of one of these, or from no
+    route, to a place of one of these. Places are counted from 0 after the stop has been taken out, and the route's end is one."""
+    plan, change = array("I", plan), ctypes.c_int64()
+    _call("planner_move_stop", *_job(job), *_prices(job), *_list(plan), vans, stop, van, place, change)
+    return Moved(change.value, plan.tolist())
+
+
 def routes(job, plan):
     """The stops of each vehicle in order, of a plan that a call answered or took."""
     count = len(job.vehicles)
@@ -168,10 +205,10 @@ def routes(job, plan):
 
 _U32, _U64, _SIZE = ctypes.c_uint32, ctypes.c_uint64, ctypes.c_size_t
 _NUMBERS, _COST = ctypes.POINTER(ctypes.c_uint32), ctypes.POINTER(ctypes.c_double)
-_SET = ctypes.POINTER(ctypes.c_uint64)
-_JOB = [_NUMBERS, _SIZE, _NUMBERS, _SIZE, _U32, _NUMBERS, _SIZE]
-_PRICES = [_U32, _U32, _U64]
+_SET, _CHANGE = ctypes.POINTER(ctypes.c_uint64), ctypes.POINTER(ctypes.c_int64)
 _LIST = [_NUMBERS, _SIZE]
+_JOB = [*_LIST, *_LIST, _U32, *_LIST]
+_PRICES = [_U32, _U32, _U64]
 
 DECLARATIONS = {
     "planner_weigh": [*_JOB, *_PRICES, *_LIST, _COST],
@@ -183,6 +220,8 @@ DECLARATIONS = {
     "planner_solve": [*_JOB, *_PRICES, _U32, _U32, *_LIST, *_LIST, _COST, _COST, _NUMBERS, _NUMBERS, _NUMBERS],
     "planner_arrive": [*_JOB, *_PRICES, *_LIST, _U64, _U32, _SET, _COST],
     "planner_cancel": [*_JOB, *_PRICES, *_LIST, _U64, _U32, _SET, _COST],
+    "planner_view": [*_LIST, *_LIST, *_LIST, _U32, *_LIST, _SET],
+    "planner_move_stop": [*_JOB, *_PRICES, *_LIST, _U32, _U32, _U32, _U32, _CHANGE],
 }
 """The parameters of each function, which `tools/declarations` holds to include/planner.h. Each returns a uint32_t."""
 
@@ -214,7 +253,7 @@ def _call(name, *arguments):
 def _argument(kind, value):
     if isinstance(value, array):
         return ctypes.cast(value.buffer_info()[0], kind)
-    if isinstance(value, (ctypes.c_uint32, ctypes.c_uint64, ctypes.c_double)):
+    if isinstance(value, (ctypes.c_uint32, ctypes.c_uint64, ctypes.c_int64, ctypes.c_double)):
         return ctypes.byref(value)
     # ctypes would cut a number that is too wide.
     if not 0 <= value < 1 << 8 * ctypes.sizeof(kind):
@@ -241,10 +280,14 @@ def _list(numbers):
     return (memory if memory else array("I", [0])), len(memory)
 
 
-def _job(job):
+def _lists(job):
     vehicles = [location for vehicle in job.vehicles for location in vehicle]
+    return *_list(vehicles), *_list(job.stops)
+
+
+def _job(job):
     distances = [distance for row in job.distances for distance in row]
-    return *_list(vehicles), *_list(job.stops), len(job.distances), *_list(distances)
+    return *_lists(job), len(job.distances), *_list(distances)
 
 
 def _prices(job):

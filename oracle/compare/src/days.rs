@@ -1,19 +1,14 @@
 //! Whole days of arrivals and cancellations, from an empty plan and no live stop on. Each sheet has the plan and the live
-//! stops that the second program's answer before left. All days go on side by side, so that a program is started once for
-//! a batch of sheets. Besides comparing the answers it tests what is claimed of every day, from the events alone.
+//! stops that the second program's answer before left. Besides comparing the answers it tests what is claimed of every day,
+//! from the events alone.
 
-use crate::{differ, program::Program, report, Options};
+use crate::{
+    steps::{fields, lines, play_all, routes, weigh, without, Game, NUMBER_WIDTH, PLAN_WIDTH},
+    Options,
+};
 use generate::{Day, Event};
-use sheet::{
-    contains, decode, encode, given_live, placed_stops, write_sheet, Call, Job, Routes, Sheet,
-};
-use std::{
-    collections::BTreeMap,
-    error::Error,
-    fmt, fs,
-    io::{self, Write},
-    time::Instant,
-};
+use sheet::{contains, encode, given_live, placed_stops, Call, Routes, Sheet};
+use std::{error::Error, fmt};
 
 /// A day with the plan and the live stops of its last answer.
 struct Played {
@@ -43,36 +38,13 @@ enum Outcome {
 
 /// Whether the programs agree on all days and the claims hold.
 pub fn run(options: &Options) -> Result<bool, Box<dyn Error>> {
-    let start = Instant::now();
     let mut days = (0..options.count)
         .map(|index| Played::new(generate::day(options.seed, options.from + index)))
         .collect::<Vec<_>>();
-    let longest = days.iter().map(|played| played.day.events.len()).max();
-    let mut outcomes = BTreeMap::<Outcome, u64>::new();
+    let Some(outcomes) = play_all(options, &mut days)? else {
+        return Ok(false);
+    };
 
-    for step in 0..longest.unwrap_or(0) {
-        let mut playing = days
-            .iter_mut()
-            .enumerate()
-            .filter(|(_, played)| step < played.day.events.len())
-            .collect::<Vec<_>>();
-
-        for batch in playing.chunks_mut(options.batch as usize) {
-            if !play(options, step, batch, &mut outcomes)? {
-                return Ok(false);
-            }
-        }
-
-        eprint!(
-            "\rstep {} of {} the same, {} s ",
-            step + 1,
-            longest.unwrap_or(0),
-            start.elapsed().as_secs()
-        );
-        io::stderr().flush()?;
-    }
-
-    eprintln!();
     println!(
         "{} days of {} events the same: {} and {}",
         options.count,
@@ -88,80 +60,6 @@ pub fn run(options: &Options) -> Result<bool, Box<dyn Error>> {
     Ok(true)
 }
 
-/// One step of some days. Whether the programs agree and the claims hold.
-fn play(
-    options: &Options,
-    step: usize,
-    batch: &mut [(usize, &mut Played)],
-    outcomes: &mut BTreeMap<Outcome, u64>,
-) -> Result<bool, Box<dyn Error>> {
-    let sheets = batch
-        .iter()
-        .map(|(_, played)| write_sheet(&played.sheet(step)))
-        .collect::<Vec<_>>();
-    let input = sheets.concat().into_bytes();
-    let [one, other] = &options.programs;
-    let (expected, given) = (one.run(&input)?, other.run(&input)?);
-
-    if expected != given || !given.is_complete() {
-        for ((index, played), text) in batch.iter().zip(&sheets) {
-            if differ(options, text.as_bytes())? {
-                show(options, *index, played, step, "the answers differ")?;
-
-                return report(options, text.as_bytes());
-            }
-        }
-
-        println!("\nonly several inputs one after another differ");
-
-        return report(options, &input);
-    }
-
-    let answers = answers(given.output())
-        .filter(|answers| answers.len() == batch.len())
-        .ok_or("the answers are not of the form")?;
-
-    for ((index, played), answer) in batch.iter_mut().zip(answers) {
-        match played.take(step, answer) {
-            Ok(outcome) => *outcomes.entry(outcome).or_default() += 1,
-            Err(claim) => {
-                show(options, *index, played, step, &claim)?;
-
-                return Ok(false);
-            }
-        }
-    }
-
-    Ok(true)
-}
-
-/// Shows a day up to the step at which something is wrong: the events, the sheet with its job, and both answers.
-fn show(
-    options: &Options,
-    index: usize,
-    played: &Played,
-    step: usize,
-    claim: &str,
-) -> Result<(), Box<dyn Error>> {
-    let text = write_sheet(&played.sheet(step));
-    let path = "difference.txt";
-
-    println!(
-        "\nday {} of seed {}, step {step}: {claim}",
-        options.from + index as u64,
-        options.seed
-    );
-    println!("events: {:?}", &played.day.events[..=step]);
-    println!("the sheet, which is in {path}:\n{text}");
-    fs::write(path, &text)?;
-
-    for program in &options.programs as &[Program] {
-        println!("{program} prints:\n{}", program.run(text.as_bytes())?);
-    }
-
-    Ok(())
-}
-
 impl Played {
     fn new(day: Day) -> Self {
         let routes = vec![vec![]; day.job.vehicles.len()];
@@ -170,46 +68,6 @@ impl Played {
             plan: encode(&routes, day.job.stops.len()),
             live: 0,
             day,
-        }
-    }
-
-    fn sheet(&self, step: usize) -> Sheet {
-        let (call, stop) = match self.day.events[step] {
-            Event::Arrival(stop) => (Call::Arrive, stop),
-            Event::Cancellation(stop) => (Call::Cancel, stop),
-        };
-
-        Sheet {
-            call,
-            given: given_live(stop, self.live),
-            plan: self.plan.clone(),
-            job: self.day.job.clone(),
-        }
-    }
-
-    /// Goes on to what an answer leaves, or answers the claim that it breaks.
-    fn take(&mut self, step: usize, answer: Answer) -> Result<Outcome, String> {
-        let event = self.day.events[step];
-        let stop = event.stop();
-
-        match (self.refusal(step), answer) {
-            (None, Answer::Changed { live, cost, plan }) => {
-                let routes = self.test(step, live, cost, &plan)?;
-
-                self.live = live;
-                self.plan = plan;
-
-                Ok(match event {
-                    Event::Cancellation(_) => Outcome::Cancelled,
-                    _ if contains(placed_stops(&routes), stop) => Outcome::Placed,
-                    _ => Outcome::LeftOff,
-                })
-            }
-            (Some(number), Answer::Refused(other)) if number == other => {
-                Ok(Outcome::Refused(number))
-            }
-            (Some(number), _) => Err(format!("it is to be refused as {number}")),
-            (None, _) => Err("it is to be accepted".into()),
         }
     }
 
@@ -240,16 +98,7 @@ impl Played {
     fn test(&self, step: usize, live: u64, cost: u64, plan: &[u32]) -> Result<Routes, String> {
         let job = &self.day.job;
         let stop = self.day.events[step].stop() as usize;
-        let decode = |plan: &[u32]| decode(plan, job.vehicles.len(), job.stops.len());
-        let routes = decode(plan).ok_or("it is no plan, or has a stop twice")?;
-        let others = |routes: &Routes| {
-            routes
-                .iter()
-                .map(|route| route.iter().copied().filter(|&other| other != stop))
-                .map(Iterator::collect)
-                .collect::<Routes>()
-        };
-
+        let new = routes(job, plan)?;
         let is_stop = |stop: u32| (stop as usize) < job.stops.len();
 
         if (0..u64::BITS)
@@ -258,80 +107,92 @@ impl Played {
             return Err("the live stops are not those added and not cancelled since".into());
         }
 
-        if placed_stops(&routes) & !live != 0 {
+        if placed_stops(&new) & !live != 0 {
             return Err("a stop that is not live is on a route".into());
         }
 
-        if decode(&self.plan).map(|routes| others(&routes)) != Some(others(&routes)) {
+        if routes(job, &self.plan).map(|old| without(&old, stop)) != Ok(without(&new, stop)) {
             return Err("another stop has moved".into());
         }
 
-        match weigh(job, &routes, live) {
-            afresh if afresh == cost => Ok(routes),
+        match weigh(job, &new, live) {
+            afresh if afresh == cost => Ok(new),
             afresh => Err(format!("weighed afresh it costs {afresh}")),
         }
     }
 }
 
-/// The cost of routes where only live stops are to be made.
-fn weigh(job: &Job, routes: &Routes, live: u64) -> u64 {
-    let missed = live & !placed_stops(routes);
-    let mut cost = job.missed * missed.count_ones() as u64;
+impl Game<1> for Played {
+    type Answer = Answer;
+    type Outcome = Outcome;
 
-    for (route, &[start, end]) in routes.iter().zip(&job.vehicles) {
-        let mut places = vec![start];
+    const NAME: &'static str = "day";
+    const SHEETS_ARE: &'static str = "the sheet, which is";
 
-        places.extend(route.iter().map(|&stop| job.stops[stop]));
-        places.push(end);
-
-        let length = places
-            .windows(2)
-            .map(|leg| job.distances[leg[0] as usize][leg[1] as usize] as u64)
-            .sum::<u64>();
-
-        cost += length * job.linear as u64 + length * length * job.quadratic as u64;
+    fn step_count(&self) -> usize {
+        self.day.events.len()
     }
 
-    cost
-}
+    fn sheets(&self, step: usize) -> [Sheet; 1] {
+        let (call, stop) = match self.day.events[step] {
+            Event::Arrival(stop) => (Call::Arrive, stop),
+            Event::Cancellation(stop) => (Call::Cancel, stop),
+        };
 
-/// The answers that a program prints for arrivals and cancellations, or none where they are out of form.
-fn answers(output: &[u8]) -> Option<Vec<Answer>> {
-    if !output.is_empty() && !output.ends_with(b"\n") {
-        return None;
+        [Sheet {
+            call,
+            given: given_live(stop, self.live),
+            plan: self.plan.clone(),
+            job: self.day.job.clone(),
+        }]
     }
 
-    let mut lines = std::str::from_utf8(output).ok()?.split_terminator('\n');
-    let mut answers = vec![];
+    fn answers(output: &[u8]) -> Option<Vec<Answer>> {
+        let mut lines = lines(output)?;
+        let mut answers = vec![];
 
-    while let Some(line) = lines.next() {
-        answers.push(match fields(line, 20)?[..] {
-            [number] => Answer::Refused(number),
-            [live, cost] => Answer::Changed {
-                live,
-                cost,
-                plan: fields(lines.next()?, 14)?
-                    .into_iter()
-                    .map(u32::try_from)
-                    .collect::<Result<_, _>>()
-                    .ok()?,
-            },
-            _ => return None,
-        });
+        while let Some(line) = lines.next() {
+            answers.push(match fields(line, NUMBER_WIDTH)?[..] {
+                [number] => Answer::Refused(number),
+                [live, cost] => Answer::Changed {
+                    live,
+                    cost,
+                    plan: fields(lines.next()?, PLAN_WIDTH)?,
+                },
+                _ => return None,
+            });
+        }
+
+        Some(answers)
     }
 
-    Some(answers)
-}
+    fn take(&mut self, step: usize, [answer]: [&Answer; 1]) -> Result<Outcome, String> {
+        let event = self.day.events[step];
 
-fn fields(line: &str, width: usize) -> Option<Vec<u64>> {
-    if !line.is_ascii() || !line.len().is_multiple_of(width) {
-        return None;
+        match (self.refusal(step), answer) {
+            (None, Answer::Changed { live, cost, plan }) => {
+                let routes = self.test(step, *live, *cost, plan)?;
+
+                self.live = *live;
+                self.plan = plan.clone();
+
+                Ok(match event {
+                    Event::Cancellation(_) => Outcome::Cancelled,
+                    _ if contains(placed_stops(&routes), event.stop()) => Outcome::Placed,
+                    _ => Outcome::LeftOff,
+                })
+            }
+            (Some(number), Answer::Refused(other)) if number == *other => {
+                Ok(Outcome::Refused(number))
+            }
+            (Some(number), _) => Err(format!("it is to be refused as {number}")),
+            (None, _) => Err("it is to be accepted".into()),
+        }
     }
 
-    (0..line.len())
-        .step_by(width)
-        .map(|start| line[start..start + width].trim_start().parse().ok())
-        .collect()
+    fn history(&self, step: usize) -> String {
+        format!("events: {:?}", &self.day.events[..=step])
+    }
 }
 
 impl fmt::Display for Outcome {
@@ -358,7 +219,7 @@ mod tests {
             events,
         });
 
-        assert!(played.take(0, changed(1, 4, [1, 0, UNUSED])).is_ok());
+        assert!(played.take(0, [&changed(1, 4, [1, 0, UNUSED])]).is_ok());
         played
     }
 
@@ -384,7 +245,7 @@ mod tests {
             let (plan, live) = (played.plan.clone(), played.live);
             let is_refused = matches!(answer, Answer::Refused(_));
 
-            assert!(played.take(1, answer).is_ok());
+            assert!(played.take(1, [&answer]).is_ok());
             assert_eq!(
                 (played.plan, played.live) == (plan, live),
                 is_refused,
@@ -416,9 +277,7 @@ mod tests {
             (Event::Cancellation(1), changed(1, 4, [1, 0, UNUSED])),
             (Event::Cancellation(2), Answer::Refused(17)),
         ] {
-            let text = format!("{answer:?}");
-
-            assert!(played(event).take(1, answer).is_err(), "{text}");
+            assert!(played(event).take(1, [&answer]).is_err(), "{answer:?}");
         }
     }
 
@@ -427,9 +286,9 @@ mod tests {
         let changed = "                   3                   6\n             2             1             0\n";
         let refused = "                  16\n";
 
-        assert_eq!(answers(b""), Some(vec![]));
+        assert_eq!(Played::answers(b""), Some(vec![]));
         assert_eq!(
-            answers([refused, changed].concat().as_bytes()),
+            Played::answers([refused, changed].concat().as_bytes()),
             Some(vec![
                 Answer::Refused(16),
                 Answer::Changed {
@@ -441,7 +300,7 @@ mod tests {
         );
 
         for text in ["\n", "x", "16\n", &changed[..41], &refused[..20]] {
-            assert_eq!(answers(text.as_bytes()), None, "{text}");
+            assert_eq!(Played::answers(text.as_bytes()), None, "{text}");
         }
     }
 }

@@ -1,5 +1,6 @@
 use sheet::{
-    decode, encode, given_live, read_job, read_sheet, write_job, write_sheet, Call, Job, Sheet,
+    decode, encode, given_live, holds, read_job, read_sheet, write_job, write_sheet, Call, Job,
+    Sheet,
 };
 use std::io;
 
@@ -101,6 +102,10 @@ fn candidates(sheet: &Sheet) -> Vec<Change<Sheet>> {
     for stop in 0..job.stops.len() {
         changes.push(Box::new(move |sheet| not_live(sheet, stop)));
         changes.push(Box::new(move |sheet| unplaced(sheet, stop)));
+    }
+
+    for van in 0..job.vehicles.len() {
+        changes.push(Box::new(move |sheet| not_held(sheet, van)));
     }
 
     changes.push(Box::new(|sheet| {
@@ -234,10 +239,11 @@ fn with_routes(
 }
 
 fn without_stop(sheet: &Sheet, stop: usize) -> Option<Sheet> {
-    let given_stops = if sheet.call.has_live_stops() {
-        &sheet.given[..1]
-    } else {
-        &sheet.given
+    let given_stops = match sheet.call {
+        Call::Arrive | Call::Cancel => &sheet.given[..1],
+        Call::View => &[],
+        Call::MoveStop => &sheet.given[1..2],
+        _ => &sheet.given,
     };
 
     if stop >= sheet.job.stops.len() || given_stops.contains(&(stop as u32)) {
@@ -255,6 +261,16 @@ fn without_stop(sheet: &Sheet, stop: usize) -> Option<Sheet> {
         let above = sheet.live() >> stop >> 1 << stop;
 
         given = given_live(given[0], below | above);
+    }
+
+    if sheet.call.has_vans() {
+        let mut same = sheet.given.clone();
+
+        same[1..]
+            .iter_mut()
+            .zip(given)
+            .for_each(|(old, new)| *old = new);
+        given = same;
     }
 
     job.stops.remove(stop);
@@ -275,9 +291,24 @@ fn without_vehicle(sheet: &Sheet, vehicle: usize) -> Option<Sheet> {
     }
 
     let mut job = sheet.job.clone();
+    let mut given = sheet.given.clone();
+
+    if sheet.call.has_vans() {
+        let below = sheet.vans() & ((1 << vehicle) - 1);
+
+        given[0] = below | sheet.vans() >> vehicle >> 1 << vehicle;
+    }
+
+    if sheet.call == Call::MoveStop {
+        if sheet.van() as usize == vehicle {
+            return None;
+        }
+
+        given[2] -= (sheet.van() as usize > vehicle) as u32;
+    }
 
     job.vehicles.remove(vehicle);
-    with_routes(sheet, job, sheet.given.clone(), |routes| {
+    with_routes(sheet, job, given, |routes| {
         routes.remove(vehicle);
     })
 }
@@ -310,6 +341,15 @@ fn not_live(sheet: &Sheet, stop: usize) -> Option<Sheet> {
     })?;
 
     (new != *sheet).then_some(new)
+}
+
+/// The sheet with a van that the caller does not hold.
+fn not_held(sheet: &Sheet, van: usize) -> Option<Sheet> {
+    if !sheet.call.has_vans() || !holds(sheet.vans(), van) {
+        return None;
+    }
+
+    changed(sheet, |sheet| sheet.given[0] &= !(1 << van))
 }
 
 /// The job without a location. What was there moves to location 0.

@@ -1,7 +1,7 @@
 use crate::Random;
 use sheet::Job;
 
-const MAX_DISTANCE: u32 = 200_000;
+pub const MAX_DISTANCE: u32 = 200_000;
 pub const MAX_MISSED_PRICE: u64 = 10_000_000_000_000;
 
 /// Limits on the numbers of vehicles, stops and locations.
@@ -121,6 +121,37 @@ fn some_live_job(random: &mut Random) -> Job {
     } else {
         any_job(random)
     }
+}
+
+/// A job for a view or a move. Many have as many vehicles or stops as there can be, few have none.
+pub fn vans_job(random: &mut Random) -> Job {
+    let Sizes {
+        vehicles: most_vehicles,
+        stops: most_stops,
+        locations: most_locations,
+    } = Sizes::LARGE;
+    let vehicles = random.within(0..=most_vehicles);
+    let stops = random.within(0..=most_stops);
+    let locations = random.within(1..=most_locations);
+
+    let mut job = match random.below(18) {
+        0 => sized_job(random, Sizes::new(most_vehicles, most_stops, locations)),
+        1 => sized_job(random, Sizes::new(most_vehicles, stops, 8)),
+        2 => sized_job(random, Sizes::new(vehicles, most_stops, 8)),
+        // Jobs with more than one vehicle and more than one stop.
+        3..=8 => sized_job(
+            random,
+            Sizes::new(2 + vehicles / 4, 2 + stops / 4, 2 + locations / 8),
+        ),
+        _ => any_job(random),
+    };
+
+    // Few have no price at all for driving.
+    if job.linear == 0 && job.quadratic == 0 && !random.once_in(4) {
+        job.linear = 1;
+    }
+
+    job
 }
 
 pub fn job(random: &mut Random, sizes: Sizes) -> Job {

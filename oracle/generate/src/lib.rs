@@ -7,8 +7,10 @@ mod random;
 mod recorded;
 mod recorded_live;
 mod recorded_refusals;
+mod recorded_vans;
 mod refused;
 mod sheet;
+mod vans;
 
 pub use crate::{
     job::{long_job, small_job, sufficient, Sizes},
@@ -17,6 +19,7 @@ pub use crate::{
     recorded::recorded_sheets,
     refused::refuse,
     sheet::{accepted_sheet, plan, sheet},
+    vans::{pair, Move, Pair},
 };
 
 use ::sheet::{write_job, write_sheet, Call};
@@ -31,6 +34,8 @@ pub enum Kind {
     Calls,
     /// Sheets with refused arguments.
     Refused,
+    /// Such sheets of views and moves alone.
+    RefusedVans,
     /// A sheet with its bytes damaged, with none to two others before it and one or none after it.
     DamagedCalls,
     /// Job files for the shuttle program.
@@ -42,7 +47,7 @@ pub enum Kind {
 }
 
 impl Kind {
-    const NAMES: [(&'static str, Self); 15] = [
+    const NAMES: [(&'static str, Self); 18] = [
         ("weigh", Self::Call(Call::Weigh)),
         ("start_plan", Self::Call(Call::StartPlan)),
         ("two_opt", Self::Call(Call::TwoOpt)),
@@ -52,8 +57,11 @@ impl Kind {
         ("solve", Self::Call(Call::Solve)),
         ("arrive", Self::Call(Call::Arrive)),
         ("cancel", Self::Call(Call::Cancel)),
+        ("view", Self::Call(Call::View)),
+        ("move_stop", Self::Call(Call::MoveStop)),
         ("calls", Self::Calls),
         ("refused", Self::Refused),
+        ("refused-vans", Self::RefusedVans),
         ("damaged-calls", Self::DamagedCalls),
         ("jobs", Self::Jobs),
         ("damaged-jobs", Self::DamagedJobs),
@@ -111,7 +119,12 @@ pub fn text(seed: u64, index: u64, kind: Kind) -> Vec<u8> {
     match kind {
         Kind::Call(call) => write_sheet(&sheet::some_sheet(random, call)).into_bytes(),
         Kind::Calls => write_sheet(&sheet::any_sheet(random)).into_bytes(),
-        Kind::Refused => write_sheet(&refused::refused_sheet(random)).into_bytes(),
+        Kind::Refused => write_sheet(&refused::refused_sheet(random, &Call::ALL)).into_bytes(),
+        Kind::RefusedVans => {
+            let calls = [Call::View, Call::MoveStop, Call::MoveStop];
+
+            write_sheet(&refused::refused_sheet(random, &calls)).into_bytes()
+        }
         Kind::DamagedCalls => {
             let mut sheets = |count| {
                 (0..random.below(count))

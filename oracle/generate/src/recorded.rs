@@ -5,15 +5,16 @@ use crate::{
     job::{largest_job, sufficient, table, Sizes, Table, MAX_MISSED_PRICE},
     recorded_live::recorded_live,
     recorded_refusals::recorded_refusals,
+    recorded_vans::recorded_vans,
     Random,
 };
-use sheet::{all_stops, encode, given_live, placed_stops, Call, Job, Routes, Sheet, CALL_COUNT};
+use sheet::{all_stops, encode, given_live, placed_stops, Call, Job, Routes, Sheet};
 use std::collections::BTreeMap;
 
 const SEED: u64 = 1;
 
-/// Sheets of a call that are not refused.
-const ACCEPTED: [(Call, usize); CALL_COUNT] = [
+/// Sheets of a call that are not refused. Those of views and moves are all made one by one.
+const ACCEPTED: [(Call, usize); 9] = [
     (Call::Weigh, 30),
     (Call::StartPlan, 40),
     (Call::TwoOpt, 120),
@@ -25,7 +26,7 @@ const ACCEPTED: [(Call, usize); CALL_COUNT] = [
     (Call::Cancel, 40),
 ];
 
-/// All recorded sheets that are in form, those with every list at its limit last.
+/// All recorded sheets that are in form, in the order in which they joined: those of views and moves last.
 pub fn recorded_sheets() -> Vec<Sheet> {
     let accepted = ACCEPTED.into_iter().flat_map(|(call, count)| {
         let mut turns = Turns::new(call);
@@ -40,6 +41,7 @@ pub fn recorded_sheets() -> Vec<Sheet> {
         .chain(recorded_live())
         .chain([first_average_sheet()])
         .chain(largest_sheets())
+        .chain(recorded_vans())
         .collect()
 }
 
@@ -387,7 +389,7 @@ mod tests {
 
         assert_eq!(
             numbers.into_iter().collect::<Vec<_>>(),
-            [4, 6, 7, 8, 9, 10, 11, 12, 13, 16, 17]
+            [4, 6, 7, 8, 9, 10, 11, 12, 13, 15, 16, 17]
         );
     }
 }

@@ -1,8 +1,20 @@
-//! The recorded sheets with arguments to refuse.
+//! The recorded sheets with arguments to refuse, except those of views and moves, which stand with the others of these calls.
 
 use sheet::{given_live, refusal, Call, Job, Sheet, UNUSED};
 
 type Change = fn(&mut Sheet);
+
+const CALLS: [Call; 9] = [
+    Call::Weigh,
+    Call::StartPlan,
+    Call::TwoOpt,
+    Call::Rebuild,
+    Call::Exhaustive,
+    Call::Pruned,
+    Call::Solve,
+    Call::Arrive,
+    Call::Cancel,
+];
 
 /// Changes of the example by the number of their refusal. Numbers 1, 2, 3 and 5 speak of lists that no sheet holds.
 const CHANGES: [(u64, &[Change]); 11] = [
@@ -145,10 +157,10 @@ const LIVE: [Change; 2] = [
     |sheet| set_live(sheet, 0b1101),
 ];
 
-/// For each call the example, each change of it (refused or, where the call does not ask for the argument, not), every
+/// For each of these calls the example, each change of it (refused or, where the call does not ask for the argument, not), every
 /// two changes with refusals of their own, the lower of which is the answer, and numbers at their limits.
 pub fn recorded_refusals() -> Vec<Sheet> {
-    Call::ALL.into_iter().flat_map(sheets).collect()
+    CALLS.into_iter().flat_map(sheets).collect()
 }
 
 fn sheets(call: Call) -> Vec<Sheet> {
@@ -284,14 +296,14 @@ mod tests {
             for change in changes {
                 let refused = |call: &Call| refusal(&changed(*call, &[*change])) == Some(number);
 
-                assert!(Call::ALL.iter().any(refused), "{number}");
+                assert!(CALLS.iter().any(refused), "{number}");
             }
         }
     }
 
     #[test]
     fn refuses_no_number_at_its_limit() {
-        for call in Call::ALL {
+        for call in CALLS {
             for change in LIMITS {
                 assert_eq!(refusal(&changed(call, &[change])), None);
             }

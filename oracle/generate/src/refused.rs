@@ -3,9 +3,9 @@ use sheet::{contains, decode, encode, given_live, refusal, Call, Sheet, UNUSED};
 
 const MAX_TRIES: usize = 20;
 
-/// A sheet with one argument or several that are refused.
-pub fn refused_sheet(random: &mut Random) -> Sheet {
-    let call = random.choose(&Call::ALL);
+/// A sheet of one of the calls with one argument or several that are refused.
+pub fn refused_sheet(random: &mut Random, calls: &[Call]) -> Sheet {
+    let call = random.choose(calls);
     let mut sheet = accepted_sheet(random, call);
 
     // A test that fails to refuse is not to start a long run.
@@ -55,6 +55,7 @@ pub fn refuse(random: &mut Random, sheet: &mut Sheet) {
         5 => sheet.job.quadratic = random.choose(&[17, u32::MAX]),
         6 => sheet.job.missed = random.choose(&[10_000_000_000_001, 99_999_999_999_999]),
         7 | 8 | 11..=13 if sheet.call.has_live_stops() => damage_live(random, sheet),
+        7 | 8 | 11..=13 if sheet.call.has_vans() => damage_vans(random, sheet),
         7 => sheet.job.smoothing = random.choose(&[0, 1_001, u32::MAX]),
         8 => sheet.job.limit = random.choose(&[0, 1_000_001, u32::MAX]),
         9 | 10 => damage_plan(random, sheet),
@@ -213,6 +214,51 @@ fn unplace(sheet: &mut Sheet) {
         }
 
         sheet.plan = encode(&routes, stop_count);
+    }
+}
+
+/// Vans that the job has not, or for a move a stop, a van or a place that the call does not take.
+fn damage_vans(random: &mut Random, sheet: &mut Sheet) {
+    let vehicle_count = sheet.job.vehicles.len() as u32;
+    let stop_count = sheet.job.stops.len() as u32;
+    let above = random.small(vehicle_count.min(31)..=31);
+    let vans = sheet.vans() | 1 << random.choose(&[vehicle_count.min(31), above, 31]);
+
+    if sheet.call == Call::View {
+        sheet.given[0] = random.choose(&[vans, vans, vans, u32::MAX]);
+        return;
+    }
+
+    let (stop, van) = (sheet.stop(), sheet.van());
+
+    match random.below(6) {
+        0 => sheet.given[0] = random.choose(&[vans, vans, u32::MAX]),
+        1 => {
+            sheet.given[1] =
+                random.choose(&[stop_count, stop_count + 1, 64, 64 + stop % 64, u32::MAX]);
+        }
+        // Vans without that of the stop or of the place.
+        2 => sheet.given[0] &= !(1 << (van % 32)),
+        3 => {
+            let routes = decode(&sheet.plan, vehicle_count as usize, stop_count as usize);
+            let own = routes.and_then(|routes| {
+                routes
+                    .iter()
+                    .position(|route| route.contains(&(stop as usize)))
+            });
+
+            sheet.given[0] &= !own.map_or(0, |own| 1 << (own % 32));
+        }
+        4 => {
+            let some = random.small(0..=vehicle_count);
+
+            sheet.given[2] = random.choose(&[some, vehicle_count, 31, 32 + van % 32, u32::MAX]);
+        }
+        _ => {
+            let length = sheet.plan.get(van as usize).copied().unwrap_or(0);
+
+            sheet.given[3] = random.choose(&[length, length, length.wrapping_add(1), u32::MAX]);
+        }
     }
 }
 

@@ -1,14 +1,15 @@
 use crate::{
-    job::{any_job, job, live_job, run_job, small_job, Sizes},
+    job::{any_job, job, live_job, run_job, small_job, vans_job, Sizes},
     live::live_sheet,
     refused::refuse,
+    vans::vans_sheet,
     Random,
 };
 use sheet::{encode, Call, Job, Sheet};
 
 /// A sheet of any call, mostly of those with many cases.
 pub fn any_sheet(random: &mut Random) -> Sheet {
-    let call = match random.below(25) {
+    let call = match random.below(30) {
         0 => Call::Weigh,
         1 | 2 => Call::StartPlan,
         3..=10 => Call::TwoOpt,
@@ -17,7 +18,9 @@ pub fn any_sheet(random: &mut Random) -> Sheet {
         17 => Call::Pruned,
         18 | 19 => Call::Solve,
         20..=22 => Call::Arrive,
-        _ => Call::Cancel,
+        23 | 24 => Call::Cancel,
+        25 | 26 => Call::View,
+        _ => Call::MoveStop,
     };
 
     some_sheet(random, call)
@@ -39,6 +42,7 @@ pub fn accepted_sheet(random: &mut Random, call: Call) -> Sheet {
         Call::Exhaustive | Call::Pruned => job(random, Sizes::SMALL),
         Call::Solve => run_job(random),
         Call::Arrive | Call::Cancel => live_job(random),
+        Call::View | Call::MoveStop => vans_job(random),
         _ => any_job(random),
     };
 
@@ -61,6 +65,10 @@ pub fn small_sheet(random: &mut Random) -> Sheet {
 pub fn sheet(random: &mut Random, call: Call, job: Job) -> Sheet {
     if call.has_live_stops() {
         return live_sheet(random, call, job);
+    }
+
+    if call.has_vans() {
+        return vans_sheet(random, call, job);
     }
 
     let plan = if call.has_plan() {

@@ -10,10 +10,11 @@ mod rebuild;
 mod run;
 mod start;
 mod two_opt;
+mod vans;
 
 use day::Day;
 use plan::Plan;
-use sheet::{Changed, Job, Planner, Routes, Run};
+use sheet::{Changed, Job, Moved, Planner, Routes, Run, Seen};
 
 pub struct Plain;
 
@@ -71,5 +72,20 @@ impl Planner for Plain {
 
     fn cancel(job: &Job, routes: &Routes, live: u64, stop: usize) -> Changed {
         live::cancel(job, routes, live, stop)
+    }
+
+    fn view(job: &Job, routes: &Routes, vans: u32) -> Seen {
+        vans::view(job, routes, vans)
+    }
+
+    fn move_stop(
+        job: &Job,
+        routes: &Routes,
+        vans: u32,
+        stop: usize,
+        van: usize,
+        place: usize,
+    ) -> Moved {
+        vans::move_stop(job, routes, vans, stop, van, place)
     }
 }

@@ -62,12 +62,12 @@ fn cost(job: &Job, routes: &Routes, live: u64) -> u64 {
     driving + job.missed * missed
 }
 
-fn price(job: &Job, length: u64) -> u64 {
+pub fn price(job: &Job, length: u64) -> u64 {
     length * job.linear as u64 + length * length * job.quadratic as u64
 }
 
 /// Metres from a vehicle's start through its stops to its end.
-fn length(job: &Job, vehicle: usize, stops: &[usize]) -> u64 {
+pub fn length(job: &Job, vehicle: usize, stops: &[usize]) -> u64 {
     let [start, end] = job.vehicles[vehicle];
     let mut from = start;
     let mut length = 0;

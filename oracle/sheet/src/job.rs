@@ -17,7 +17,7 @@ pub struct Job {
     pub draws: Vec<u32>,
 }
 
-pub const CALL_COUNT: usize = 9;
+pub const CALL_COUNT: usize = 11;
 
 #[derive(Clone, Copy, Debug, Eq, PartialEq)]
 pub enum Call {
@@ -30,6 +30,8 @@ pub enum Call {
     Solve,
     Arrive,
     Cancel,
+    View,
+    MoveStop,
 }
 
 impl Call {
@@ -43,6 +45,8 @@ impl Call {
         Self::Solve,
         Self::Arrive,
         Self::Cancel,
+        Self::View,
+        Self::MoveStop,
     ];
 
     pub fn from_number(number: u64) -> Option<Self> {
@@ -63,18 +67,36 @@ impl Call {
         matches!(self, Self::Arrive | Self::Cancel)
     }
 
+    /// Whether a sheet of the call has a line that begins with the caller's vans.
+    pub fn has_vans(self) -> bool {
+        matches!(self, Self::View | Self::MoveStop)
+    }
+
+    /// Whether a sheet of the call has a line with given numbers of whatever kind.
+    pub fn has_given_line(self) -> bool {
+        self.has_given_stops() || self.has_live_stops() || self.has_vans()
+    }
+
     /// Whether a sheet of the call has a line with a plan.
     pub fn has_plan(self) -> bool {
-        matches!(self, Self::Weigh | Self::TwoOpt | Self::Rebuild) || self.has_live_stops()
+        matches!(self, Self::Weigh | Self::TwoOpt | Self::Rebuild)
+            || self.has_live_stops()
+            || self.has_vans()
+    }
+
+    /// Whether the call is lent the locations' table, and so tests them.
+    pub fn has_table(self) -> bool {
+        self != Self::View
     }
 
     pub fn has_prices(self) -> bool {
-        self != Self::StartPlan
+        !matches!(self, Self::StartPlan | Self::View)
     }
 }
 
 /// One call with its arguments. `given` and `plan` are empty where the call has none. Of an arrival or a cancellation
-/// `given` is the stop and the live stops' low and high half.
+/// `given` is the stop and the live stops' low and high half; of a view it is the caller's vans; of a move the caller's
+/// vans, the stop, the van and the place.
 #[derive(Clone, Debug, Eq, PartialEq)]
 pub struct Sheet {
     pub call: Call,
@@ -84,14 +106,29 @@ pub struct Sheet {
 }
 
 impl Sheet {
-    /// The stop of an arrival or a cancellation.
+    /// The stop of an arrival, a cancellation or a move.
     pub fn stop(&self) -> u32 {
-        self.given[0]
+        self.given[(self.call == Call::MoveStop) as usize]
     }
 
     /// The live stops of an arrival or a cancellation.
     pub fn live(&self) -> u64 {
         self.given[1] as u64 | (self.given[2] as u64) << 32
+    }
+
+    /// The vans of the caller of a view or a move.
+    pub fn vans(&self) -> u32 {
+        self.given[0]
+    }
+
+    /// The van that a move puts its stop on.
+    pub fn van(&self) -> u32 {
+        self.given[2]
+    }
+
+    /// The place that a move puts its stop at, counted after the stop has been taken out.
+    pub fn place(&self) -> u32 {
+        self.given[3]
     }
 }
 
@@ -103,6 +140,11 @@ pub fn given_live(stop: u32, live: u64) -> Vec<u32> {
 /// Whether a set has a stop, which may be any number.
 pub fn contains(set: u64, stop: u32) -> bool {
     stop < u64::BITS && set >> stop & 1 == 1
+}
+
+/// Whether a set of vans has a van, which may be any number.
+pub fn holds(vans: u32, van: usize) -> bool {
+    van < u32::BITS as usize && vans >> van & 1 == 1
 }
 
 /// The set of all stops.
@@ -139,7 +181,7 @@ pub fn job_a() -> Job {
 }
 
 /// A call on Job A: the plan of both stops in order, and both stops given, where the call has them. Stop 1 arrives where
-/// only stop 0 is live and placed.
+/// only stop 0 is live and placed; it is moved to the front.
 pub fn sheet_a(call: Call) -> Sheet {
     Sheet {
         call,
@@ -147,6 +189,8 @@ pub fn sheet_a(call: Call) -> Sheet {
             Call::TwoOpt | Call::Rebuild => vec![0, 1],
             Call::Arrive => given_live(1, 1),
             Call::Cancel => given_live(1, 3),
+            Call::View => vec![1],
+            Call::MoveStop => vec![1, 1, 0, 0],
             _ => vec![],
         },
         plan: match call {

@@ -9,10 +9,11 @@ mod table;
 mod write;
 
 pub use job::{
-    all_stops, contains, given_live, job_a, placed_stops, sheet_a, Call, Job, Sheet, CALL_COUNT,
+    all_stops, contains, given_live, holds, job_a, placed_stops, sheet_a, Call, Job, Sheet,
+    CALL_COUNT,
 };
 pub use plan::{decode, encode, Routes, UNUSED};
-pub use print::{answer_sheets, answer_sheets_by, costs, run_line, shuttle};
+pub use print::{answer_sheets, answer_sheets_by, change_line, costs, run_line, shuttle};
 pub use read::{read_job, read_sheet, Malformed};
 pub use refuse::refusal;
 pub use table::call_table;
@@ -36,6 +37,20 @@ pub struct Changed {
     pub routes: Routes,
 }
 
+/// What a view answers: the stops on no route, and the routes with those of the other vans emptied.
+#[derive(Clone, Debug, Eq, PartialEq)]
+pub struct Seen {
+    pub unplaced: u64,
+    pub routes: Routes,
+}
+
+/// What a move answers: how much dearer the caller's vans and the missed part become, and the plan that it leaves.
+#[derive(Clone, Debug, Eq, PartialEq)]
+pub struct Moved {
+    pub change: i64,
+    pub routes: Routes,
+}
+
 /// The calls, on arguments that are not refused.
 pub trait Planner {
     fn weigh(job: &Job, routes: &Routes) -> u64;
@@ -47,4 +62,13 @@ pub trait Planner {
     fn solve(job: &Job) -> (Run, Routes);
     fn arrive(job: &Job, routes: &Routes, live: u64, stop: usize) -> Changed;
     fn cancel(job: &Job, routes: &Routes, live: u64, stop: usize) -> Changed;
+    fn view(job: &Job, routes: &Routes, vans: u32) -> Seen;
+    fn move_stop(
+        job: &Job,
+        routes: &Routes,
+        vans: u32,
+        stop: usize,
+        van: usize,
+        place: usize,
+    ) -> Moved;
 }

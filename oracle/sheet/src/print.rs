@@ -92,6 +92,16 @@ fn answer<P: Planner>(sheet: &Sheet) -> String {
         }
         Call::Arrive => changed(P::arrive(job, &routes, sheet.live(), given[0])),
         Call::Cancel => changed(P::cancel(job, &routes, sheet.live(), given[0])),
+        Call::View => {
+            let seen = P::view(job, &routes, sheet.vans());
+
+            costs([seen.unplaced]) + &plan_line(&seen.routes)
+        }
+        Call::MoveStop => {
+            let moved = P::move_stop(job, &routes, sheet.vans(), given[1], given[2], given[3]);
+
+            change_line(moved.change) + &plan_line(&moved.routes)
+        }
     }
 }
 
@@ -103,6 +113,11 @@ pub fn run_line(run: Run) -> String {
         run.improving_rounds,
         run.settled as u64,
     ])
+}
+
+/// A line of a signed number in 20 columns, the sign of a negative one before its digits.
+pub fn change_line(change: i64) -> String {
+    format!("{change:20}\n")
 }
 
 /// A line of numbers in 20 columns each.

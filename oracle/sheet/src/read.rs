@@ -29,6 +29,8 @@ pub fn read_sheet(input: &[u8]) -> Result<(Sheet, &[u8]), Malformed> {
         Call::TwoOpt => reader.small_numbers::<2>()?.to_vec(),
         Call::Rebuild => reader.numbers_up_to(MAX_GIVEN_STOP_COUNT)?,
         Call::Arrive | Call::Cancel => reader.small_numbers::<3>()?.to_vec(),
+        Call::View => reader.small_numbers::<1>()?.to_vec(),
+        Call::MoveStop => reader.small_numbers::<4>()?.to_vec(),
         _ => vec![],
     };
     let plan = if call.has_plan() {
@@ -263,6 +265,39 @@ mod tests {
         assert_eq!(sheet.stop(), 7);
         assert_eq!(sheet.live(), 0x2_0000_0005);
         assert_eq!(given_live(7, sheet.live()), sheet.given);
+    }
+
+    #[test]
+    fn reads_as_many_numbers_as_a_caller_gives() {
+        for (call, number_count) in [(Call::View, 1), (Call::MoveStop, 4)] {
+            for count in 0..7 {
+                let sheet = Sheet {
+                    given: vec![u32::MAX; count],
+                    ..sheet_a(call)
+                };
+
+                assert_eq!(
+                    read_sheet(write_sheet(&sheet).as_bytes()).is_ok(),
+                    count == number_count,
+                );
+            }
+
+            let text = write_sheet(&sheet_a(call));
+
+            assert!(read_sheet(
+                text.replacen("             1", "    4294967296", 1)
+                    .as_bytes()
+            )
+            .is_err());
+        }
+
+        let sheet = Sheet {
+            given: vec![5, 7, 2, 3],
+            ..sheet_a(Call::MoveStop)
+        };
+
+        assert_eq!((sheet.vans(), sheet.stop()), (5, 7));
+        assert_eq!((sheet.van(), sheet.place()), (2, 3));
     }
 
     #[test]

@@ -1,4 +1,4 @@
-use crate::{all_stops, contains, decode, placed_stops, Call, Job, Sheet};
+use crate::{all_stops, contains, decode, holds, placed_stops, Call, Job, Routes, Sheet};
 
 const MAX_DISTANCE: u32 = 200_000;
 const MAX_LINEAR_PRICE: u32 = 1_000_000;
@@ -27,13 +27,15 @@ pub fn refusal(sheet: &Sheet) -> Option<u64> {
             4,
             call.has_plan() && plan.len() != vehicle_count + stop_count,
         ),
-        (6, has_unknown_location(job)),
+        (6, call.has_table() && has_unknown_location(job)),
         (
             7,
-            job.distances
-                .iter()
-                .flatten()
-                .any(|&distance| distance > MAX_DISTANCE),
+            call.has_table()
+                && job
+                    .distances
+                    .iter()
+                    .flatten()
+                    .any(|&distance| distance > MAX_DISTANCE),
         ),
         (8, call.has_prices() && has_high_price(job)),
         (
@@ -45,8 +47,10 @@ pub fn refusal(sheet: &Sheet) -> Option<u64> {
         (
             12,
             (call.has_given_stops() && !are_given_stops(*call, given, stop_count))
-                || (call.has_live_stops() && sheet.stop() as usize >= stop_count),
+                || ((call.has_live_stops() || *call == Call::MoveStop)
+                    && sheet.stop() as usize >= stop_count),
         ),
+        (15, call.has_vans() && !is_callers_own(sheet)),
         (
             16,
             *call == Call::Arrive && contains(sheet.live(), sheet.stop()),
@@ -91,6 +95,38 @@ fn is_plan(sheet: &Sheet) -> bool {
         }
         Some(_) => true,
     }
+}
+
+/// Whether a caller may ask for a view or a move of a plan in form: each of the caller's vans is one of the job's; of a move
+/// also, its stop is on one of them or on none, its van is one of them, and its place is not beyond that van's route without
+/// the stop.
+fn is_callers_own(sheet: &Sheet) -> bool {
+    let vans = sheet.vans();
+    let vehicle_count = sheet.job.vehicles.len();
+    let has_unknown_van = (vehicle_count..u32::BITS as usize).any(|van| holds(vans, van));
+
+    match decode(&sheet.plan, vehicle_count, sheet.job.stops.len()) {
+        Some(routes) if sheet.call == Call::MoveStop => {
+            !has_unknown_van && is_own_move(sheet, vans, &routes)
+        }
+        _ => !has_unknown_van,
+    }
+}
+
+fn is_own_move(sheet: &Sheet, vans: u32, routes: &Routes) -> bool {
+    let stop = sheet.stop() as usize;
+    let van = sheet.van() as usize;
+    let is_stop_elsewhere = (0..routes.len())
+        .filter(|&van| !holds(vans, van))
+        .any(|van| routes[van].contains(&stop));
+
+    if is_stop_elsewhere || !holds(vans, van) {
+        return false;
+    }
+
+    let others = routes[van].iter().filter(|&&other| other != stop);
+
+    sheet.place() as usize <= others.count()
 }
 
 fn are_given_stops(call: Call, given: &[u32], stop_count: usize) -> bool {
@@ -140,16 +176,18 @@ mod tests {
     fn refuses_by_call() {
         use Call::*;
 
-        let planned = [Weigh, TwoOpt, Rebuild, Arrive, Cancel];
+        let planned = [Weigh, TwoOpt, Rebuild, Arrive, Cancel, View, MoveStop];
         let priced = [
-            Weigh, TwoOpt, Rebuild, Exhaustive, Pruned, Solve, Arrive, Cancel,
+            Weigh, TwoOpt, Rebuild, Exhaustive, Pruned, Solve, Arrive, Cancel, MoveStop,
         ];
+        // All but a view.
+        let tabled = [&priced[..], &[StartPlan]].concat();
 
         check(&planned, 4, |sheet| sheet.plan.push(UNUSED));
-        check(&Call::ALL, 6, |sheet| sheet.job.vehicles[0][0] = 3);
-        check(&Call::ALL, 6, |sheet| sheet.job.vehicles[0][1] = 3);
-        check(&Call::ALL, 6, |sheet| sheet.job.stops[1] = 3);
-        check(&Call::ALL, 7, |sheet| sheet.job.distances[2][2] = 200_001);
+        check(&tabled, 6, |sheet| sheet.job.vehicles[0][0] = 3);
+        check(&tabled, 6, |sheet| sheet.job.vehicles[0][1] = 3);
+        check(&tabled, 6, |sheet| sheet.job.stops[1] = 3);
+        check(&tabled, 7, |sheet| sheet.job.distances[2][2] = 200_001);
         check(&priced, 8, |sheet| sheet.job.linear += 1);
         check(&priced, 8, |sheet| sheet.job.quadratic += 1);
         check(&priced, 8, |sheet| sheet.job.missed += 1);
@@ -176,7 +214,7 @@ mod tests {
             sheet.job.vehicles = vec![[0, 0]; 4];
 
             if sheet.call.has_plan() {
-                sheet.plan = [&[0; 3], &sheet.plan[..]].concat()
+                sheet.plan.splice(1..1, [0; 3]);
             }
         });
         check(&[Exhaustive, Pruned], 13, |sheet| {
@@ -252,6 +290,60 @@ mod tests {
             assert_eq!(refusal(&sheet), None);
             sheet.given[0] = 64;
             assert_eq!(refusal(&sheet), Some(12));
+        }
+    }
+
+    /// The refusals of a view and of a move with three vans, of which the first has stops 0 and 1 and the second stop 2.
+    fn vans(given: [u32; 4]) -> [Option<u64>; 2] {
+        [Call::View, Call::MoveStop].map(|call| {
+            let mut sheet = Sheet {
+                given: given[..if call == Call::View { 1 } else { 4 }].to_vec(),
+                plan: vec![2, 1, 0, 0, 1, 2, UNUSED],
+                ..sheet(call)
+            };
+
+            sheet.job.vehicles = vec![[0, 0]; 3];
+            sheet.job.stops = vec![0; 4];
+            refusal(&sheet)
+        })
+    }
+
+    #[test]
+    fn refuses_by_vans() {
+        let own = [None, None];
+        let not_own = [None, Some(15)];
+
+        // Within a route, to another, to an empty one, and from no route.
+        assert_eq!(vans([0b001, 0, 0, 1]), own);
+        assert_eq!(vans([0b011, 0, 1, 1]), own);
+        assert_eq!(vans([0b111, 2, 2, 0]), own);
+        assert_eq!(vans([0b100, 3, 2, 0]), own);
+
+        // The stop is elsewhere, or the van is.
+        assert_eq!(vans([0b110, 0, 1, 0]), not_own);
+        assert_eq!(vans([0b001, 2, 0, 0]), not_own);
+        assert_eq!(vans([0b011, 0, 2, 0]), not_own);
+
+        for van in [3, 31, 32, 33, 64, u32::MAX] {
+            assert_eq!(vans([0b111, 0, van, 0]), not_own);
+        }
+
+        assert_eq!(vans([0, 3, 0, 0]), not_own);
+
+        // The end of a route, without the stop, and one beyond.
+        assert_eq!(vans([0b001, 0, 0, 2]), not_own);
+        assert_eq!(vans([0b001, 3, 0, 2]), own);
+        assert_eq!(vans([0b001, 3, 0, 3]), not_own);
+        assert_eq!(vans([0b111, 0, 2, 1]), not_own);
+        assert_eq!(vans([0b111, 0, 1, u32::MAX]), not_own);
+
+        for vans_given in [0b1001, 1 << 3, 1 << 31, u32::MAX] {
+            assert_eq!(vans([vans_given, 0, 0, 0]), [Some(15); 2]);
+        }
+
+        for stop in [4, 32, 64, 65, u32::MAX] {
+            assert_eq!(vans([0b111, stop, 0, 0]), [None, Some(12)]);
+            assert_eq!(vans([0b1111, stop, 9, 9]), [Some(15), Some(12)]);
         }
     }
 

@@ -1,12 +1,27 @@
 use crate::CALL_COUNT;
 
+const NAMES: [&str; CALL_COUNT] = [
+    "weigh",
+    "start",
+    "two-opt",
+    "rebuild",
+    "exhaustive",
+    "pruned",
+    "solve",
+    "arrive",
+    "cancel",
+    "view",
+    "move",
+];
+
 /// A table of counts by call: the heading of its first column, and a name and the counts for each row. No count is no text.
 pub fn call_table(
     heading: &str,
     rows: impl IntoIterator<Item = (String, [usize; CALL_COUNT])>,
 ) -> String {
     let header = format!(
-        "| {heading} | weigh | start | two-opt | rebuild | exhaustive | pruned | solve | arrive | cancel | sum |\n{}|\n",
+        "| {heading} | {} | sum |\n{}|\n",
+        NAMES.join(" | "),
         "|---".repeat(CALL_COUNT + 2)
     );
 

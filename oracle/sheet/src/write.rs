@@ -37,7 +37,7 @@ pub fn write_job(job: &Job) -> String {
 pub fn write_sheet(sheet: &Sheet) -> String {
     let mut text = line([sheet.call.number()]);
 
-    if sheet.call.has_given_stops() || sheet.call.has_live_stops() {
+    if sheet.call.has_given_line() {
         text += &numbers(&sheet.given);
     }
 

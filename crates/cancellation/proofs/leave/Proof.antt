@@ -3,7 +3,7 @@ use native.Mathlib.Omega.{arith}
 use borrow.Author.Needs.{needs}
 use Rattle.model.specs.Plan.{decode}
 use Rattle.model.proofs.PlanForm.{lent-length}
-use Rattle.cancellation.proofs.Leaving.{Leaves, found, taken, stays}
+use Rattle.joining.proofs.Leaving.{Leaves, found, taken, stays}
 use Rattle.cancellation.proofs.leave.Statement.{statement}
 use Rattle.cancellation.proofs.leave.Tie as tie
 

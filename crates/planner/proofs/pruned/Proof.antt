@@ -18,7 +18,7 @@ given c =
 
 -- what it is refused with
 said : (c : tie.After-of-exhaustive) → c .of-exhaustive .result ≡ refusal Pruned (given c)
-said c = c .of-exhaustive .ensures ∙ pruned-order (given c)
+said c = c .of-exhaustive .ensures ∙ pruned-order (given c) refl
 
 not-refused : (c : tie.Else1) → refusal Pruned (given (c .before)) ≡ 0
 not-refused c = sym (said (c .before)) ∙ c .if1 .left
@@ -36,7 +36,7 @@ slice-aggregate-leg-table : tie.Need-slice-aggregate-leg-table
 slice-aggregate-leg-table c = search needs
 
 leg-table-requires : tie.Need-leg-table-requires
-leg-table-requires c κs = (listed Pruned (given (c .before .before)) (not-refused (c .before)) .limits, search needs)
+leg-table-requires c κs = (listed Pruned (given (c .before .before)) (not-refused (c .before)) .limits refl, search needs)
 
 slice-aggregate-pruned : tie.Need-slice-aggregate-pruned
 slice-aggregate-pruned c = search needs

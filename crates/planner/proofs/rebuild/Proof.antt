@@ -34,7 +34,7 @@ slice-aggregate-leg-table : tie.Need-slice-aggregate-leg-table
 slice-aggregate-leg-table c = search needs
 
 leg-table-requires : tie.Need-leg-table-requires
-leg-table-requires c κs = (listed Rebuild (given (c .before .before)) (not-refused (c .before)) .limits, search needs)
+leg-table-requires c κs = (listed Rebuild (given (c .before .before)) (not-refused (c .before)) .limits refl, search needs)
 
 slice-aggregate-rebuild : tie.Need-slice-aggregate-rebuild
 slice-aggregate-rebuild c = search needs

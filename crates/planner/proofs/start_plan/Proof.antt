@@ -1,4 +1,4 @@
-use mathlib.Core.Path.{_≡_, sym, _∙_}
+use mathlib.Core.Path.{_≡_, refl, sym, _∙_}
 use mathlib.Core.List.{[]}
 use Rattle.model.specs.Job.{jobOf}
 use Rattle.model.specs.Refusals.{Arguments, asking, StartPlan, refusal, unpriced}
@@ -35,7 +35,7 @@ slice-aggregate-leg-table : tie.Need-slice-aggregate-leg-table
 slice-aggregate-leg-table c = search needs
 
 leg-table-requires : tie.Need-leg-table-requires
-leg-table-requires c κs = (listed StartPlan (given (c .before .before)) (not-refused (c .before)) .limits, search needs)
+leg-table-requires c κs = (listed StartPlan (given (c .before .before)) (not-refused (c .before)) .limits refl, search needs)
 
 slice-aggregate-start-plan : tie.Need-slice-aggregate-start-plan
 slice-aggregate-start-plan c = search needs

@@ -19,7 +19,7 @@ given c =
 
 -- what it is refused with
 said : (c : tie.After-of-rebuild) → c .of-rebuild .result ≡ refusal TwoOpt (given c)
-said c = c .of-rebuild .ensures ∙ two-opt-order (given c)
+said c = c .of-rebuild .ensures ∙ two-opt-order (given c) refl
 
 not-refused : (c : tie.Else1) → refusal TwoOpt (given (c .before)) ≡ 0
 not-refused c = sym (said (c .before)) ∙ c .if1 .left
@@ -40,7 +40,7 @@ slice-aggregate-leg-table : tie.Need-slice-aggregate-leg-table
 slice-aggregate-leg-table c = search needs
 
 leg-table-requires : tie.Need-leg-table-requires
-leg-table-requires c κs = (listed TwoOpt (given (c .before .before)) (not-refused (c .before)) .limits, search needs)
+leg-table-requires c κs = (listed TwoOpt (given (c .before .before)) (not-refused (c .before)) .limits refl, search needs)
 
 slice-aggregate-pair : tie.Need-slice-aggregate-pair
 slice-aggregate-pair c = search needs

@@ -32,7 +32,7 @@ slice-aggregate-leg-table : tie.Need-slice-aggregate-leg-table
 slice-aggregate-leg-table c = search needs
 
 leg-table-requires : tie.Need-leg-table-requires
-leg-table-requires c κs = (listed Weigh (given (c .before .before)) (not-refused (c .before)) .limits, search needs)
+leg-table-requires c κs = (listed Weigh (given (c .before .before)) (not-refused (c .before)) .limits refl, search needs)
 
 slice-aggregate-cost : tie.Need-slice-aggregate-cost
 slice-aggregate-cost c = search needs

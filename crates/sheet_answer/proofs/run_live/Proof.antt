@@ -1,8 +1,13 @@
+use Prim.Native.Nat.{ℕ, _≤_}
+use mathlib.Core.Path.{_≡_, refl}
 use borrow.Author.Needs.{needs}
 use native.Mathlib.Omega.{arith}
 use Rattle.sheet_answer.proofs.Ran.{ran-arrive, ran-cancel}
 use Rattle.sheet_answer.proofs.run_live.Statement.{statement}
 use Rattle.sheet_answer.proofs.run_live.Tie as tie
+
+other : (call : ℕ) → (8 ≤ call) × (call ≤ 9) → (call ≡ 8 → ⊥) → call ≡ 9
+other call l n = omega (arith, l .0, l .1)
 
 -- where the function began, from where its test comes
 abbrev start : tie.After-slice-known2 → tie.Start
@@ -10,8 +15,9 @@ start c = c .before .before .before .before .before .before
 
 arrive-requires : tie.Need-arrive-requires
 arrive-requires c κs =
-    let s = start (c .before .before .before) in
-    (s .pre .0 .printable, s .pre .0 .three (s .pre .1))
+    let branch = c .before .before in
+    let s = start (branch .before) in
+    (s .pre .0 .printable, s .pre .0 .counted 8 (branch .if1 .taken) refl)
 
 same-length : tie.Need-same-length
 same-length c = search needs
@@ -29,8 +35,9 @@ returns c =
 
 cancel-requires : tie.Need-cancel-requires
 cancel-requires c κs =
-    let s = start (c .before .before .before) in
-    (s .pre .0 .printable, s .pre .0 .three (s .pre .1))
+    let branch = c .before .before in
+    let s = start (branch .before) in
+    (s .pre .0 .printable, s .pre .0 .counted 9 (other _ (s .pre .1) (branch .if1 .left)) refl)
 
 same-length-3 : tie.Need-same-length-3
 same-length-3 c = search needs
@@ -44,7 +51,7 @@ returns-2 c =
     let branch = called .before .before .before in
     let s = start (branch .before) in
     let f = called .cancel .ensures in
-    ran-cancel _ _ _ (s .args .call) (s .args .given .now) (s .args .plan .now) _ _ (omega (arith, s .pre .0 .last, s .pre .1)) (f .1) (f .0)
+    ran-cancel _ _ _ (s .args .call) (s .args .given .now) (s .args .plan .now) _ _ (other _ (s .pre .1) (branch .if1 .left)) (f .1) (f .0)
 
 pub run-live-spec : {M : Type 1} → statement M
 run-live-spec =

@@ -1,3 +1,4 @@
+use mathlib.Core.Path.{refl}
 use borrow.Author.Needs.{needs}
 use native.Mathlib.Omega.{arith}
 use Rattle.sheet_answer.proofs.Ran.{ran-two-opt, ran-rebuild, ran-exhaustive, ran-pruned}
@@ -15,12 +16,12 @@ tested c = c .before .before .before .before .before .before
 shared-slice-read-first : tie.Need-shared-slice-read-first
 shared-slice-read-first c =
     let s = start (c .before .before) in
-    omega (arith, s .pre .0 .pair (c .before .if1 .taken))
+    omega (arith, s .pre .0 .counted 3 (c .before .if1 .taken) refl)
 
 shared-slice-read-second : tie.Need-shared-slice-read-second
 shared-slice-read-second c =
     let s = start (c .before .before .before) in
-    omega (arith, s .pre .0 .pair (c .before .before .if1 .taken))
+    omega (arith, s .pre .0 .counted 3 (c .before .before .if1 .taken) refl)
 
 two-opt-requires : tie.Need-two-opt-requires
 two-opt-requires c κs = search needs
@@ -37,7 +38,7 @@ returns c =
     let branch = called .before .before .before .before .before in
     let s = start (branch .before) in
     let f = called .two-opt .ensures in
-    ran-two-opt _ _ _ (s .args .call) (s .args .given .now) (s .args .plan .now) _ _ (branch .if1 .taken) (s .pre .0 .pair (branch .if1 .taken)) (f .1) (f .0)
+    ran-two-opt _ _ _ (s .args .call) (s .args .given .now) (s .args .plan .now) _ _ (branch .if1 .taken) (s .pre .0 .counted 3 (branch .if1 .taken) refl) (f .1) (f .0)
 
 rebuild-requires : tie.Need-rebuild-requires
 rebuild-requires c κs = search needs

@@ -1,7 +1,7 @@
 use borrow.Author.Needs.{needs}
 use native.Mathlib.Omega.{arith}
 use Rattle.file_job.specs.Reading.{buffers}
-use Rattle.sheet_answer.proofs.Held.{plan-within, runs, sheet-prints}
+use Rattle.sheet_answer.proofs.Held.{plan-within, runs, few-places, sheet-prints}
 use Rattle.sheet_answer.proofs.run_sheet.Statement.{statement}
 use Rattle.sheet_answer.proofs.run_sheet.Tie as tie
 
@@ -99,7 +99,8 @@ run-call-requires : tie.Need-run-call-requires
 run-call-requires c κs =
     let m = measured c in
     let s = start m in
-    runs (s .args .head) (s .args .h) (buffers (s .args .vehicles .now) (s .args .stops .now) (s .args .distances .now) (s .args .draws .now)) (s .args .given .now) (s .args .plan .now) (s .args .out .now) (s .pre) _ (m .plan-length .ensures)
+    let held = buffers (s .args .vehicles .now) (s .args .stops .now) (s .args .distances .now) (s .args .draws .now) in
+    (runs (s .args .head) (s .args .h) held (s .args .given .now) (s .args .plan .now) (s .args .out .now) (s .pre) _ (m .plan-length .ensures), few-places (s .args .head) (s .args .h) held (s .args .given .now) (s .args .plan .now) (s .args .out .now) (s .pre) _ (m .plan-length .ensures))
 
 same-length : tie.Need-same-length
 same-length c = search needs

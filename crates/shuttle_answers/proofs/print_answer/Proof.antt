@@ -1,7 +1,9 @@
--- `shuttle_answers::print_answer` is safe: what it lends on lies within its buffers.
 use native.Mathlib.Omega.{arith}
+use mathlib.Core.Path.{refl}
+use mathlib.Core.Logic.{inl, inr}
 use borrow.Author.Needs.{needs}
 use Rattle.file_input.proofs.Fronts.{filled-within}
+use Rattle.shuttle_answers.proofs.Laws.{answers-printed}
 use Rattle.shuttle_answers.proofs.print_answer.Statement.{statement}
 use Rattle.shuttle_answers.proofs.print_answer.Tie as tie
 
@@ -21,7 +23,7 @@ fail-requires : tie.Need-fail-requires
 fail-requires c κs = search needs
 
 returns : tie.Need-returns
-returns c = search needs
+returns c = inl refl
 
 sub-answer : tie.Need-sub-answer
 sub-answer c = search needs
@@ -60,10 +62,10 @@ fail-requires-2 : tie.Need-fail-requires-2
 fail-requires-2 c κs = search needs
 
 returns-2 : tie.Need-returns-2
-returns-2 c = search needs
+returns-2 c = inl refl
 
 returns-3 : tie.Need-returns-3
-returns-3 c = search needs
+returns-3 c = inr (answers-printed _ _ _ _ (c .before .before .before .before .before .answer .ensures))
 
 pub print-answer-spec : {M : Type 1} → statement M
 print-answer-spec =

@@ -8,7 +8,7 @@
 //! then [`UNUSED`] in each place that is left.
 //!
 //! ```
-//! use planner::{Job, Refusal, Running};
+//! use planner::{Job, Move, Refusal, Running};
 //!
 //! let job = Job {
 //!     vehicles: &[0, 0],
@@ -29,6 +29,15 @@
 //!
 //! assert_eq!(refusal, Refusal(12));
 //! eprintln!("{refusal}"); // refused, 12: a given stop does not exist, ..
+//!
+//! // A caller who holds van 0 moves stop 1 to the end of its route, which makes it 14 dearer, and looks at the plan.
+//! let vans = 1;
+//! let to_the_end = Move { stop: 1, van: 0, place: 1 };
+//! let mut seen = [planner::UNUSED; 3];
+//!
+//! assert_eq!(planner::move_stop(&job, &mut plan, vans, to_the_end)?, 14);
+//! assert_eq!(planner::view(&job, &plan, vans, &mut seen)?, 0); // no stop is on no route
+//! assert_eq!(seen, [2, 0, 1]);
 //! # Ok::<(), Refusal>(())
 //! ```
 
@@ -93,6 +102,17 @@ pub struct Standing {
     pub live: u64,
     /// The cost of the plan that is left. Of the stops on no route it counts the live ones.
     pub cost: f64,
+}
+
+/// A stop, and the place where it is to go.
+#[derive(Clone, Copy, Debug, Eq, PartialEq)]
+pub struct Move {
+    /// The stop.
+    pub stop: u32,
+    /// The van that is to take it.
+    pub van: u32,
+    /// The place on that van's route, counted from 0 after the stop has been taken out. The route's end is one.
+    pub place: u32,
 }
 
 /// The cost of a plan.
@@ -230,4 +250,36 @@ pub fn cancel(job: &Job, plan: &mut [u32], live: u64, stop: u32) -> Result<Stand
     };
 
     answer(number, standing)
+}
+
+/// Shows a plan to a caller who holds a set of vans, one number as well: van 0 is its lowest bit. Writes the plan with the routes of
+/// other vans emptied to `seen`, and answers the set of the stops that are on no route. What `seen` held is not read; of the job,
+/// only the vehicles and the stops are.
+#[rustfmt::skip]
+pub fn view(job: &Job, plan: &[u32], vans: u32, seen: &mut [u32]) -> Result<u64, Refusal> {
+    let mut unplaced = 0;
+    let number = unsafe {
+        raw::planner_view(
+            job.vehicles.as_ptr(), job.vehicles.len(), job.stops.as_ptr(), job.stops.len(),
+            plan.as_ptr(), plan.len(), vans, seen.as_mut_ptr(), seen.len(), &mut unplaced,
+        )
+    };
+
+    answer(number, unplaced)
+}
+
+/// Moves a stop for a caller who holds a set of vans: from the route of one of these, or from no route, to a place of one of these.
+/// Answers the change in the cost of the caller's vans and of the missed stops, which is below 0 where the plan has become cheaper.
+#[rustfmt::skip]
+pub fn move_stop(job: &Job, plan: &mut [u32], vans: u32, Move { stop, van, place }: Move) -> Result<i64, Refusal> {
+    let mut change = 0;
+    let number = unsafe {
+        raw::planner_move_stop(
+            job.vehicles.as_ptr(), job.vehicles.len(), job.stops.as_ptr(), job.stops.len(), job.locations,
+            job.distances.as_ptr(), job.distances.len(), job.linear, job.quadratic, job.missed,
+            plan.as_mut_ptr(), plan.len(), vans, stop, van, place, &mut change,
+        )
+    };
+
+    answer(number, change)
 }

@@ -51,4 +51,13 @@ extern "C" {
         distances: *const u32, distances_len: usize, linear: u32, quadratic: u32, missed: u64,
         plan: *mut u32, plan_len: usize, live: u64, stop: u32, after: *mut u64, cost: *mut f64,
     ) -> u32;
+    pub fn planner_view(
+        vehicles: *const u32, vehicles_len: usize, stops: *const u32, stops_len: usize,
+        plan: *const u32, plan_len: usize, vans: u32, seen: *mut u32, seen_len: usize, unplaced: *mut u64,
+    ) -> u32;
+    pub fn planner_move_stop(
+        vehicles: *const u32, vehicles_len: usize, stops: *const u32, stops_len: usize, locations: u32,
+        distances: *const u32, distances_len: usize, linear: u32, quadratic: u32, missed: u64,
+        plan: *mut u32, plan_len: usize, vans: u32, stop: u32, van: u32, place: u32, change: *mut i64,
+    ) -> u32;
 }

@@ -1,6 +1,6 @@
 //! A host in Rust: Job A, planned by each call, with the same lines as the hosts in C and Python.
 
-use planner::{Job, Refusal, Running, Standing};
+use planner::{Job, Move, Refusal, Running, Standing};
 
 const JOB: Job = Job {
     vehicles: &[0, 0],
@@ -15,9 +15,14 @@ const JOB: Job = Job {
 /// A line: the call's name, its values or the number of its refusal, and the plan.
 fn show(name: &str, answer: Result<String, Refusal>, plan: &[u32]) {
     let answer = answer.unwrap_or_else(|refusal| format!(" refused {}", refusal.0));
-    let plan = plan.iter().map(u32::to_string).collect::<Vec<_>>();
 
-    println!("{name}{answer} plan {}", plan.join(" "));
+    println!("{name}{answer} plan {}", spaced(plan));
+}
+
+fn spaced(numbers: &[u32]) -> String {
+    let words = numbers.iter().map(u32::to_string).collect::<Vec<_>>();
+
+    words.join(" ")
 }
 
 fn show_cost(name: &str, answer: Result<f64, Refusal>, plan: &[u32]) {
@@ -58,6 +63,34 @@ fn show_change(name: &str, before: u64, answer: Result<Standing, Refusal>, plan:
     live
 }
 
+/// A view for a caller who holds a set of vans.
+fn show_view(vans: u32, plan: &[u32]) {
+    let mut seen = [7; 3];
+    let answer = planner::view(&JOB, plan, vans, &mut seen);
+
+    show(
+        "view",
+        answer.map(|unplaced| format!(" unplaced {unplaced} seen {}", spaced(&seen))),
+        plan,
+    );
+}
+
+/// A move of stop 1 to a place of van 0, for a caller who holds that van.
+fn show_move(place: u32, plan: &mut [u32]) {
+    let to = Move {
+        stop: 1,
+        van: 0,
+        place,
+    };
+    let answer = planner::move_stop(&JOB, plan, 1, to);
+
+    show(
+        "move_stop",
+        answer.map(|change| format!(" change {change}")),
+        plan,
+    );
+}
+
 fn main() {
     let plan = &mut [5, 5, 5];
 
@@ -79,4 +112,11 @@ fn main() {
     let live = show_change("cancel", live, planner::cancel(&JOB, plan, live, 1), plan); // no longer live: refused
     let live = show_change("arrive", live, planner::arrive(&JOB, plan, live, 1), plan);
     show_change("arrive", live, planner::arrive(&JOB, plan, live, 1), plan); // live already: refused
+    show_view(1, plan);
+    show_move(1, plan); // to the end of its route
+    show_move(2, plan); // beyond the end: refused
+    show_change("cancel", live, planner::cancel(&JOB, plan, live, 1), plan);
+    show_view(0, plan); // without a van: no route is seen
+    show_view(2, plan); // there is no van 1: refused
+    show_move(0, plan); // from no route
 }

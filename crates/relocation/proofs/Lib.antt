@@ -1,0 +1,4 @@
+pub mod Apart
+pub mod Pairs
+pub mod Weighing
+pub mod Moves
