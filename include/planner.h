@@ -24,7 +24,8 @@
  * unused place.
  *
  * A set of stops is one number, stop 0 its lowest bit, and so is a set of vans: a van is a vehicle that a caller may hold. A cost is a
- * whole number, exact in a double; a change in cost is a whole number with a sign.
+ * whole number, exact in a double; a change in cost is a whole number with a sign, a rise one without. A road is an entry of the table,
+ * so the way back is another.
  *
  * Refusals (refusals.txt, beside this file, has a sentence for each):
  *    1  vehicles_len odd or over 32             8  a price over its limit: 1000000, 16, 10000000000000
@@ -33,10 +34,10 @@
  *       distances_len not its square           11  a given plan not in plan form, or a stop twice; or
  *    4  plan_len or seen_len not v + n             a live set that lacks a stop of the plan or has one not below n
  *    5  draws_len outside 1 to 1024            12  given stops not below n, equal, or (rebuild) not one or two
- *    6  a location number not below l          13  exhaustive or pruned with over 6 stops or 3 vehicles
- *    7  a distance over 200000                 15  the set names a van not below v, the stop is on a van outside the set, the
- *                                                  target van is, or the place is beyond the route's end
- *                                              16  arrival of a stop that is live
+ *    6  a location number not below l, also    13  exhaustive or pruned with over 6 stops or 3 vehicles
+ *       `from` or `to` of a road               15  the set names a van not below v, the stop is on a van outside the set, the
+ *    7  a distance over 200000, also that          target van is, or the place is beyond the route's end
+ *       of a road with `more` added            16  arrival of a stop that is live
  *                                              17  cancellation of a stop that is not live
  */
 #ifndef PLANNER_H
@@ -176,6 +177,20 @@ uint32_t planner_move_stop(
     uint32_t *plan, size_t plan_len,
     uint32_t vans, uint32_t stop, uint32_t van, uint32_t place,
     int64_t *change);
+
+/* Says how much a road can cost: the one from location `from` to location `to`, which roadworks lengthen by `more` metres. Writes the
+ * most by which the plan's cost can rise, more * S * (linear + quadratic * (2 * T + more * S)). S counts the uses of the road by the
+ * routes, of which an empty one has the one leg from start to end; T is the length of all routes together. The true rise is never
+ * above that. The plan is only read. */
+uint32_t planner_roadworks(
+    const uint32_t *vehicles, size_t vehicles_len,
+    const uint32_t *stops, size_t stops_len,
+    uint32_t locations,
+    const uint32_t *distances, size_t distances_len,
+    uint32_t linear, uint32_t quadratic, uint64_t missed,
+    const uint32_t *plan, size_t plan_len,
+    uint32_t from, uint32_t to, uint32_t more,
+    uint64_t *rise);
 
 #ifdef __cplusplus
 }

@@ -13,7 +13,7 @@ pub fn answer(sheet: &Sheet) -> String {
     let before = plan.clone();
     let answer = call(sheet, &mut plan);
     let plan_line = match sheet.call {
-        Call::Weigh | Call::View => String::new(),
+        Call::Weigh | Call::View | Call::Roadworks => String::new(),
         _ => numbers(&plan),
     };
 
@@ -26,7 +26,8 @@ pub fn answer(sheet: &Sheet) -> String {
     }
 }
 
-/// Makes the call, and answers the line of its cost, its live stops and cost, its run, or its change, or the lines of its view.
+/// Makes the call, and answers the line of its cost, its live stops and cost, its run, its change, or the rise, or the lines of its
+/// view.
 fn call(sheet: &Sheet, plan: &mut [u32]) -> Result<String, Refusal> {
     let job = &sheet.job;
     let line = |cost: f64| costs([cost as u64]);
@@ -53,6 +54,7 @@ fn call(sheet: &Sheet, plan: &mut [u32]) -> Result<String, Refusal> {
 
             proved::move_stop(job, plan, sheet.vans(), to).map(change_line)
         }
+        Call::Roadworks => proved::roadworks(job, plan, sheet.road()).map(|rise| costs([rise])),
     }
 }
 
@@ -117,8 +119,8 @@ mod tests {
         assert_eq!(live_answer(Call::Cancel, 1), costs([11]));
     }
 
-    /// The answer of a view of the plan of Job A by a caller with these vans, or of a move of stop 1 to a place of van 0.
-    fn van_answer(call: Call, given: &[u32]) -> String {
+    /// The answer of a call on Job A with the plan of both stops in order, and with other given numbers.
+    fn given_answer(call: Call, given: &[u32]) -> String {
         answer(&Sheet {
             given: given.to_vec(),
             ..sheet_a(call)
@@ -127,8 +129,8 @@ mod tests {
 
     #[test]
     fn answers_what_is_seen_and_what_a_move_changes() {
-        let view = |vans| van_answer(Call::View, &[vans]);
-        let moved = |vans, place| van_answer(Call::MoveStop, &[vans, 1, 0, place]);
+        let view = |vans| given_answer(Call::View, &[vans]);
+        let moved = |vans, place| given_answer(Call::MoveStop, &[vans, 1, 0, place]);
 
         assert_eq!(view(0), costs([0]) + &numbers(&[0, UNUSED, UNUSED]));
         assert_eq!(view(1), costs([0]) + &numbers(&[2, 0, 1]));
@@ -137,5 +139,36 @@ mod tests {
         assert_eq!(moved(1, 1), change_line(0) + &numbers(&[2, 0, 1]));
         assert_eq!(moved(1, 2), costs([15]));
         assert_eq!(moved(0, 0), costs([15]));
+    }
+
+    #[test]
+    fn answers_the_most_by_which_a_cost_can_rise() {
+        let roadworks = |from, to, more| given_answer(Call::Roadworks, &[from, to, more]);
+
+        assert_eq!(roadworks(1, 2, 0), costs([0]));
+        assert_eq!(roadworks(1, 2, 5), costs([5]));
+        assert_eq!(roadworks(2, 1, 5), costs([0]));
+        assert_eq!(roadworks(1, 2, 199_991), costs([199_991]));
+        assert_eq!(roadworks(1, 2, 199_992), costs([7]));
+        assert_eq!(roadworks(1, 2, u32::MAX - 8), costs([7]));
+        assert_eq!(roadworks(1, 2, u32::MAX), costs([7]));
+        assert_eq!(roadworks(1, 3, 5), costs([6]));
+        assert_eq!(roadworks(3, 0, u32::MAX), costs([6]));
+    }
+
+    /// The length of all routes, 20 metres, counts where the square has a price; and a vehicle without stops uses its road too.
+    #[test]
+    fn answers_a_rise_by_all_routes() {
+        let mut sheet = Sheet {
+            given: vec![1, 2, 5],
+            ..sheet_a(Call::Roadworks)
+        };
+
+        (sheet.job.linear, sheet.job.quadratic) = (2, 1);
+        assert_eq!(answer(&sheet), costs([5 * (2 + 40 + 5)]));
+
+        sheet.job.vehicles.push([1, 2]);
+        sheet.plan.insert(1, 0);
+        assert_eq!(answer(&sheet), costs([10 * (2 + 58 + 10)]));
     }
 }

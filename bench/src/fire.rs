@@ -53,7 +53,7 @@ fn difference(random: &mut Random, arguments: &Arguments, outcome: &Outcome) -> 
 /// Whether arguments are at an edge.
 type Edge = (&'static str, fn(&Arguments) -> bool);
 
-const EDGES: [Edge; 49] = [
+const EDGES: [Edge; 64] = [
     ("no vehicles", |call| call.vehicles.is_empty()),
     ("16 vehicles", |call| call.vehicles.len() == 32),
     ("16 and a half", |call| call.vehicles.len() == 33),
@@ -158,6 +158,60 @@ const EDGES: [Edge; 49] = [
             call.end().is_some_and(|end| end + 1 == call.place as usize),
         )
     }),
+    ("a road from location l", |call| {
+        road(call, call.road.from == call.locations)
+    }),
+    ("a road to location l", |call| {
+        road(call, call.road.to == call.locations)
+    }),
+    ("a road from or to one above l", |call| {
+        road(call, call.road.from.max(call.road.to) > call.locations)
+    }),
+    ("a road to where it begins", |call| {
+        road(call, call.road.from == call.road.to)
+    }),
+    ("a road that no route uses", |call| {
+        used(call, |uses| uses.iter().sum::<usize>() == 0)
+    }),
+    ("a road used once", |call| {
+        used(call, |uses| uses.iter().sum::<usize>() == 1)
+    }),
+    ("a road used twice on a route", |call| {
+        used(call, |uses| uses.iter().any(|&count| count >= 2))
+    }),
+    ("a road used on two routes", |call| {
+        used(call, |uses| {
+            uses.iter().filter(|&&count| count > 0).count() >= 2
+        })
+    }),
+    ("a road used by an empty route", |call| {
+        let lengths = call.plan.iter();
+
+        used(call, |uses| {
+            lengths
+                .zip(uses)
+                .any(|(&length, &count)| length == 0 && count == 1)
+        })
+    }),
+    ("a road that is all 80 legs", |call| {
+        used(call, |uses| uses.iter().sum::<usize>() == 80)
+    }),
+    ("k 0", |call| road(call, call.road.more == 0)),
+    ("a road of 200,000 with k", |call| {
+        road(call, longer(call) == Some(200_000))
+    }),
+    ("a road of 200,001 with k", |call| {
+        road(call, longer(call) == Some(200_001))
+    }),
+    ("a road of 4,294,967,295 with k", |call| {
+        road(call, longer(call) == Some(u32::MAX as u64))
+    }),
+    ("a road that 32 bits would cut to 200,000 or less", |call| {
+        road(
+            call,
+            longer(call).is_some_and(|sum| sum > u32::MAX as u64 && sum as u32 <= 200_000),
+        )
+    }),
 ];
 
 fn tabled(call: &Arguments, condition: bool) -> bool {
@@ -186,6 +240,20 @@ fn van(call: &Arguments, condition: bool) -> bool {
 
 fn moved(call: &Arguments, condition: bool) -> bool {
     call.call == Call::MoveStop && condition
+}
+
+fn road(call: &Arguments, condition: bool) -> bool {
+    call.call.has_road() && condition
+}
+
+/// Whether the routes of a plan use the road so often.
+fn used(call: &Arguments, condition: impl FnOnce(&[usize]) -> bool) -> bool {
+    road(call, call.routes().is_some() && condition(&call.uses()))
+}
+
+/// How long the road is with what is added, where the table has it.
+fn longer(call: &Arguments) -> Option<u64> {
+    Some(call.road_length()? as u64 + call.road.more as u64)
 }
 
 fn equal_given(call: &Arguments) -> bool {

@@ -1,7 +1,9 @@
 //! The proved planner, called through the static library with the jobs of sheets.
 
 use planner::{Move, Refusal, Running, Standing, Totals};
-use sheet::{Job, Run, UNUSED};
+use sheet::{Job, Road, Run, UNUSED};
+
+pub const MAX_DISTANCE: u32 = 200_000;
 
 /// A job's lists as the calls take them.
 pub struct Lists<'a> {
@@ -84,6 +86,24 @@ pub fn view(job: &Job, plan: &[u32], vans: u32) -> Result<(u64, Vec<u32>), Refus
 
 pub fn move_stop(job: &Job, plan: &mut [u32], vans: u32, to: Move) -> Result<i64, Refusal> {
     planner::move_stop(&Lists::new(job).job(), plan, vans, to)
+}
+
+pub fn roadworks(job: &Job, plan: &[u32], longer: Road) -> Result<u64, Refusal> {
+    planner::roadworks(&Lists::new(job).job(), plan, road(longer))
+}
+
+/// A sheet's road as the calls take it.
+pub fn road(Road { from, to, more }: Road) -> planner::Road {
+    planner::Road { from, to, more }
+}
+
+/// A road made as long as a road may be.
+pub fn longest(job: &Job, from: u32, to: u32) -> Road {
+    Road {
+        from,
+        to,
+        more: MAX_DISTANCE - job.distances[from as usize][to as usize],
+    }
 }
 
 fn run(totals: Totals) -> Run {

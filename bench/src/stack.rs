@@ -1,6 +1,9 @@
 //! The least stack on which a call of the proved planner ends, at its largest size.
 
-use crate::{job, proved};
+use crate::{
+    job,
+    proved::{self, longest},
+};
 use planner::Move;
 use sheet::{all_stops, encode, Job};
 use std::{
@@ -9,7 +12,7 @@ use std::{
     thread,
 };
 
-const CALLS: [&str; 11] = [
+const CALLS: [&str; 12] = [
     "weigh",
     "start_plan",
     "two_opt",
@@ -21,6 +24,7 @@ const CALLS: [&str; 11] = [
     "cancel",
     "view",
     "move_stop",
+    "roadworks",
 ];
 const LARGEST: [u64; 3] = [16, 64, 80];
 const EXHAUSTIVE: [u64; 3] = [3, 6, 80];
@@ -112,6 +116,9 @@ fn make(call: &str, job: &Job) {
 
             proved::move_stop(job, &mut full, 3, to).map(drop)
         }),
+        // On the way between two stops, and on that of a vehicle without any.
+        "roadworks" => [[job.stops[0], job.stops[1]], job.vehicles[2]]
+            .map(|[from, to]| proved::roadworks(job, &full, longest(job, from, to)).map(drop)),
         _ => [Ok(()); 2],
     };
 

@@ -1,4 +1,4 @@
-use crate::{arrivals, clock::least_time, job, vans, Side, SIDES};
+use crate::{arrivals, clock::least_time, job, roads, vans, Side, SIDES};
 
 /// Rounds before those that are timed, so that reading the job, tables and start plan cancel out.
 const FIRST: u32 = 10;
@@ -15,8 +15,9 @@ pub fn tables() -> String {
 
     let arrivals = arrivals::table(&SIZES, JOBS);
     let vans = vans::table(&SIZES, JOBS);
+    let roads = roads::table(&SIZES, JOBS);
 
-    [by_size(), by_stops(), by_rounds(), arrivals, vans].join("\n")
+    [by_size(), by_stops(), by_rounds(), arrivals, vans, roads].join("\n")
 }
 
 /// All sides give the same answer, and no run settles before its limit.

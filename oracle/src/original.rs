@@ -2,7 +2,7 @@
 
 use core::{BasicSolver, Location};
 use rand::rngs::Draws;
-use sheet::{Changed, Job, Moved, Planner, Routes, Run, Seen};
+use sheet::{Changed, Job, Moved, Planner, Road, Routes, Run, Seen};
 use simple::{
     cost::{CostCalculator, DeliveryCostCalculator, DistanceCostCalculator},
     route::TableRouter,
@@ -135,6 +135,40 @@ impl Planner for Original {
             routes: routes(&new),
         }
     }
+
+    // Nor has it any of roadworks. Its routes' lengths tell the uses too, on a table where only the road has a length, of 1.
+    fn roadworks(job: &Job, plan: &Routes, road: Road) -> u64 {
+        let location_count = job.distances.len();
+        let nothing = Job {
+            distances: vec![vec![0; location_count]; location_count],
+            ..job.clone()
+        };
+        let uses = driven(&nothing.lengthened(Road { more: 1, ..road }), plan);
+        let old = driven(job, plan);
+        let new = old + road.more as u64 * uses;
+        // One vehicle on all routes: what it pays more for the longer way is the ceiling, multiplied out.
+        let price =
+            |length: u64| length * job.linear as u64 + length * length * job.quadratic as u64;
+        let ceiling = price(new) - price(old);
+        let rise = Self::weigh(&job.lengthened(road), plan) - Self::weigh(job, plan);
+
+        assert!(ceiling >= rise, "{ceiling} is below {rise}");
+
+        ceiling
+    }
+}
+
+/// The length of all routes together, by the solver's own.
+fn driven(job: &Job, routes: &Routes) -> u64 {
+    let problem = problem(job);
+    let router = router(job);
+    let calculator = DistanceCostCalculator::new(&router, &problem);
+
+    routes
+        .iter()
+        .enumerate()
+        .map(|(vehicle, stops)| whole(calculator.calculate_route(vehicle, stops)))
+        .sum()
 }
 
 /// The first of the cheapest plans where only live stops count.

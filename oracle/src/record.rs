@@ -3,7 +3,7 @@
 
 use sheet::{
     all_stops, answer_sheets, call_table, decode, holds, placed_stops, refusal, write_sheet, Call,
-    Planner, Routes, Sheet, CALL_COUNT,
+    Job, Planner, Road, Routes, Sheet, CALL_COUNT,
 };
 use std::{collections::BTreeMap, fs, io, path::Path};
 
@@ -27,7 +27,7 @@ pub fn record<P: Planner>(directory: &Path) -> io::Result<String> {
 type Kind = (&'static str, String);
 
 /// The rows' first words in the order of the table.
-const HEADINGS: [&str; 18] = [
+const HEADINGS: [&str; 21] = [
     "all",
     "refused",
     "size",
@@ -46,6 +46,9 @@ const HEADINGS: [&str; 18] = [
     "move",
     "stop",
     "change",
+    "uses",
+    "longer",
+    "ceiling",
 ];
 
 /// How many sheets there are by call: of all, of those that are refused, and of the others by their kinds.
@@ -128,6 +131,7 @@ fn kinds<P: Planner>(sheet: &Sheet) -> Vec<Kind> {
             kinds.push(("vans", vans(sheet).into()));
             kinds.extend(moved::<P>(sheet));
         }
+        Call::Roadworks => kinds.extend(roadworks::<P>(sheet)),
         _ => {}
     }
 
@@ -338,6 +342,43 @@ fn moved<P: Planner>(sheet: &Sheet) -> [Kind; 3] {
         ),
         ("change", change.into()),
     ]
+}
+
+/// How often the plan uses a road, how much longer the road becomes, and whether the ceiling is above what the plan's cost
+/// rises by.
+fn roadworks<P: Planner>(sheet: &Sheet) -> [Kind; 3] {
+    let job = &sheet.job;
+    let road = sheet.road();
+    let routes = routes(sheet);
+    let uses = match generate::uses(job, &routes, road)[..] {
+        [] => "none",
+        [1] => "one",
+        [_] => "several on one route",
+        _ => "on several routes",
+    };
+    let longer_job = job.lengthened(road);
+    let longer = match road.more {
+        0 => "by 0",
+        _ if is_longest(&longer_job, road) => "up to 200,000",
+        _ => "by some metres",
+    };
+    let rise = P::weigh(&longer_job, &routes) - P::weigh(job, &routes);
+    let ceiling = match P::roadworks(job, &routes, road) {
+        0 => "of 0",
+        ceiling if ceiling == rise => "as high as the rise",
+        _ => "above the rise",
+    };
+
+    [
+        ("uses", uses.into()),
+        ("longer", longer.into()),
+        ("ceiling", ceiling.into()),
+    ]
+}
+
+/// Whether a road is as long as a distance may be.
+fn is_longest(job: &Job, road: Road) -> bool {
+    job.distances[road.from as usize][road.to as usize] == generate::MAX_DISTANCE
 }
 
 fn draws(count: usize) -> &'static str {

@@ -239,7 +239,7 @@ fn refuses_and_goes_on_up_to_a_sheet_out_of_form() {
             lines(&[&[4], &[0, 1, 0], &[2, 0, 1]]) + &good,
             line(&[2]) + &job_a(1_000_001, 0, 50),
             line(&[5]) + &job_a(1_000_001, 0, 50),
-            line(&[12]) + &good,
+            line(&[13]) + &good,
             line(&[2]) + &good,
         ]
         .concat(),
@@ -622,6 +622,174 @@ fn views_without_looking_at_the_table() {
         ]
         .concat(),
     );
+}
+
+/// A sheet of roadworks (12) on Job A.
+fn road_sheet(given: &[u64], plan: &[u64], linear: u64, quadratic: u64) -> String {
+    lines(&[&[12], given, plan]) + &job_a(linear, quadratic, 50)
+}
+
+#[test]
+fn bounds_what_a_longer_road_costs_job_a() {
+    let both = [2, 1, 0];
+    let none = [0, UNUSED, UNUSED];
+
+    for (given, plan, linear, quadratic, ceiling) in [
+        // Of 3, 1 and 2 metres the second leg becomes longer.
+        ([2, 1, 5], both, 1, 0, 5),
+        ([2, 1, 5], both, 2, 1, 5 * (2 + 2 * 6 + 5)),
+        ([2, 1, 0], both, 2, 1, 0),
+        ([2, 1, 199_999], both, 2, 1, 199_999 * (2 + 2 * 6 + 199_999)),
+        // The first, the last, and one that is used the other way round alone.
+        ([0, 2, 5], both, 2, 1, 95),
+        ([1, 0, 5], both, 2, 1, 95),
+        ([1, 2, 5], both, 2, 1, 0),
+        // The way from start to end of a van without stops, of no metre.
+        ([0, 0, 5], none, 2, 1, 5 * (2 + 5)),
+        ([0, 1, 5], none, 2, 1, 0),
+    ] {
+        check(
+            "calls",
+            &road_sheet(&given, &plan, linear, quadratic),
+            &columns(&[ceiling], 20),
+        );
+    }
+}
+
+#[test]
+fn bounds_what_a_longer_road_costs_by_all_routes() {
+    // Two vans of 4 metres each. The road is the first van's alone, so that the plan costs 75 more.
+    let job = |road: u64| {
+        job(
+            [2, 2, 3, 2, 1, 100, 1, 50],
+            &[[0, 0], [0, 1]],
+            &[1, 2],
+            &[&[0, road, 3], &[2, 0, 9], &[9, 1, 0]],
+        )
+    };
+    let plan = [1, 1, 0, 1];
+
+    check(
+        "calls",
+        &[
+            lines(&[&[12], &[0, 1, 5], &plan]) + &job(2),
+            lines(&[&[1], &plan]) + &job(2),
+            lines(&[&[1], &plan]) + &job(2 + 5),
+        ]
+        .concat(),
+        &[
+            columns(&[115], 20),
+            columns(&[48], 20),
+            columns(&[48 + 75], 20),
+        ]
+        .concat(),
+    );
+}
+
+#[test]
+fn bounds_what_the_longest_road_costs() {
+    // Sixteen vans and sixty-four stops at one place: eighty legs, each of 200,000 metres where it was none.
+    let job = job(
+        [16, 64, 1, 1_000_000, 16, 10_000_000_000_000, 1, 1],
+        &[[0, 0]; 16],
+        &[0; 64],
+        &[&[0]],
+    );
+    let plan = [4; 16].into_iter().chain(0..64).collect::<Vec<_>>();
+
+    check(
+        "calls",
+        &(lines(&[&[12], &[0, 0, 200_000], &plan]) + &job),
+        &columns(&[4_112_000_000_000_000], 20),
+    );
+}
+
+#[test]
+fn refuses_roads() {
+    let both = &[2, 1, 0][..];
+    let twice = &[2, 0, 0][..];
+    let most = u32::MAX as u64;
+    let dear = 1_000_001;
+
+    for (given, plan, linear, number) in [
+        ([3, 1, 0], both, 1, 6),
+        ([0, 3, 0], both, 1, 6),
+        ([most, most, most], both, 1, 6),
+        // From 1 to 2 are 9 metres, and none of the plan's.
+        ([1, 2, 199_992], both, 1, 7),
+        ([2, 1, 200_000], both, 1, 7),
+        // What is left of the sum in 32 bits is 0, and 8.
+        ([1, 2, most - 8], both, 1, 7),
+        ([1, 2, most], both, 1, 7),
+        // Several at once.
+        ([3, 1, 200_000], &both[..2], dear, 4),
+        ([3, 1, 200_000], twice, dear, 6),
+        ([2, 1, 200_000], twice, dear, 7),
+        ([2, 1, 199_999], twice, dear, 8),
+        ([2, 1, 199_999], twice, 1, 11),
+    ] {
+        check(
+            "calls",
+            &road_sheet(&given, plan, linear, 0),
+            &columns(&[number], 20),
+        );
+    }
+
+    // There is room for just as much.
+    for (given, ceiling) in [([1, 2, 199_991], 0), ([2, 1, 199_999], 199_999)] {
+        check(
+            "calls",
+            &road_sheet(&given, both, 1, 0),
+            &columns(&[ceiling], 20),
+        );
+    }
+
+    // A location that is not in the table is before a distance that is too long.
+    let job = job(
+        [1, 1, 2, 1, 0, 0, 1, 1],
+        &[[0, 0]],
+        &[1],
+        &[&[0, 1], &[1, 200_001]],
+    );
+
+    for (given, number) in [([0, 1, 0], 7), ([2, 0, 0], 6), ([0, 2, most], 6)] {
+        check(
+            "calls",
+            &(lines(&[&[12], &given, &[1, 0]]) + &job),
+            &columns(&[number], 20),
+        );
+    }
+}
+
+#[test]
+fn reads_three_numbers_of_a_road() {
+    let plan = [2, 1, 0];
+    let most = u32::MAX as u64;
+
+    for given in [
+        &[][..],
+        &[2],
+        &[2, 1],
+        &[2, 1, 5, 0],
+        &[most + 1, 1, 5],
+        &[2, most + 1, 5],
+        &[2, 1, most + 1],
+    ] {
+        check(
+            "calls",
+            &road_sheet(given, &plan, 1, 0),
+            &columns(&[14], 20),
+        );
+    }
+
+    // The sheet ends before its road, its plan or its job.
+    for sheet in [
+        lines(&[&[12]]),
+        lines(&[&[12], &[2, 1, 5]]),
+        lines(&[&[12], &[2, 1, 5], &plan]),
+    ] {
+        check("calls", &sheet, &columns(&[14], 20));
+    }
 }
 
 #[test]

@@ -1,4 +1,4 @@
-use sheet::{all_stops, decode, given_live, placed_stops, refusal, Call, Job, Routes, Sheet};
+use sheet::{all_stops, decode, given_live, placed_stops, refusal, Call, Job, Road, Routes, Sheet};
 
 /// The arguments of a call as they cross the border, of whatever lengths. What the call does not take is not read.
 #[derive(Clone, Debug)]
@@ -24,6 +24,8 @@ pub struct Arguments {
     pub place: u32,
     /// The list that a view is written to.
     pub seen: Vec<u32>,
+    /// The road that becomes longer, and by how much.
+    pub road: Road,
 }
 
 impl Arguments {
@@ -40,6 +42,14 @@ impl Arguments {
         let [van, place] = match is_move {
             true => [sheet.van(), sheet.place()],
             false => [0; 2],
+        };
+        let road = match call.has_road() {
+            true => sheet.road(),
+            false => Road {
+                from: 0,
+                to: 0,
+                more: 0,
+            },
         };
         let given = match call.has_given_stops() {
             true => sheet.given,
@@ -74,6 +84,7 @@ impl Arguments {
             van,
             place,
             seen,
+            road,
         }
     }
 
@@ -113,6 +124,44 @@ impl Arguments {
         let others = routes.get(self.van as usize)?.iter();
 
         Some(others.filter(|&&other| other != stop).count())
+    }
+
+    /// How long the road is, where the table has it.
+    pub fn road_length(&self) -> Option<u32> {
+        let [from, to, count] =
+            [self.road.from, self.road.to, self.locations].map(|number| number as usize);
+
+        match from < count && to < count {
+            true => self.distances.get(from * count + to).copied(),
+            false => None,
+        }
+    }
+
+    /// The legs of each route, from location to location. There are none where the plan is none.
+    pub fn legs(&self) -> Vec<Vec<[u32; 2]>> {
+        let routes = self.routes().unwrap_or_default();
+
+        self.vehicles
+            .chunks_exact(2)
+            .zip(routes)
+            .map(|(ends, route)| {
+                let mut places = vec![ends[0]];
+
+                places.extend(route.iter().map(|&stop| self.stops[stop]));
+                places.push(ends[1]);
+                places.windows(2).map(|leg| [leg[0], leg[1]]).collect()
+            })
+            .collect()
+    }
+
+    /// How often each route uses the road.
+    pub fn uses(&self) -> Vec<usize> {
+        let road = [self.road.from, self.road.to];
+
+        self.legs()
+            .iter()
+            .map(|legs| legs.iter().filter(|&&leg| leg == road).count())
+            .collect()
     }
 
     /// The sheet that the arguments make, or the lowest number that refuses them ("Who can stop a call").
@@ -165,6 +214,7 @@ impl Arguments {
                 Call::Arrive | Call::Cancel => given_live(self.stop, self.live),
                 Call::View => vec![self.vans],
                 Call::MoveStop => vec![self.vans, self.stop, self.van, self.place],
+                Call::Roadworks => self.road.given(),
                 _ => self.given.clone(),
             },
             plan: self.plan.clone(),

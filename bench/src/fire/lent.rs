@@ -1,6 +1,9 @@
 //! What a call is lent: lists and results, each between guard numbers, and a copy of all of it from before the call.
 
-use super::{arguments::Arguments, outcome::Outcome};
+use super::{
+    arguments::Arguments,
+    outcome::{Left, Outcome},
+};
 use generate::Random;
 use planner::raw;
 use sheet::Call;
@@ -13,6 +16,7 @@ const COUNT: &str = "a count of rounds, the word of settling, or a number beside
 const SET: &str = "the set of live stops or of those on no route, or a number beside it";
 const SEEN: &str = "what is seen of the plan, or a number beside it";
 const CHANGE: &str = "the change in cost, or a number beside it";
+const RISE: &str = "the rise, or a number beside it";
 
 /// Numbers with guard numbers before and after them.
 struct Guarded<T> {
@@ -82,6 +86,8 @@ pub struct Lent {
     /// What a caller sees of the plan.
     seen: Guarded<u32>,
     change: Guarded<i64>,
+    /// The most by which the cost can rise.
+    rise: Guarded<u64>,
 }
 
 impl Lent {
@@ -113,19 +119,20 @@ impl Lent {
 
                 Guarded::new(random, &[number], signed)
             },
+            rise: result(random),
         }
     }
 
     /// Makes the call, and answers the number that it returns.
     #[rustfmt::skip]
     pub fn call(&mut self, arguments: &Arguments) -> u32 {
-        let Self { vehicles, stops, distances, draws, given, plan, costs: [cost, end], counts: [rounds, improving, settled], set, seen, change } = self;
-        let &Arguments { call, locations, linear, quadratic, missed, smoothing, limit, live, stop, vans, van, place, .. } = arguments;
+        let Self { vehicles, stops, distances, draws, given, plan, costs: [cost, end], counts: [rounds, improving, settled], set, seen, change, rise } = self;
+        let &Arguments { call, locations, linear, quadratic, missed, smoothing, limit, live, stop, vans, van, place, road, .. } = arguments;
         let [vehicles, stops, distances, draws, given, plan, seen] = [vehicles, stops, distances, draws, given, plan, seen]
             .map(|list| (list.address(), list.length()));
         let [cost, end] = [cost, end].map(|cost| cost.address().cast::<f64>());
         let [rounds, improving, settled] = [rounds, improving, settled].map(Guarded::address);
-        let (set, change) = (set.address(), change.address());
+        let (set, change, rise) = (set.address(), change.address(), rise.address());
 
         unsafe {
             match call {
@@ -173,6 +180,10 @@ impl Lent {
                     vehicles.0, vehicles.1, stops.0, stops.1, locations, distances.0, distances.1,
                     linear, quadratic, missed, plan.0, plan.1, vans, stop, van, place, change,
                 ),
+                Call::Roadworks => raw::planner_roadworks(
+                    vehicles.0, vehicles.1, stops.0, stops.1, locations, distances.0, distances.1,
+                    linear, quadratic, missed, plan.0, plan.1, road.from, road.to, road.more, rise,
+                ),
             }
         }
     }
@@ -187,33 +198,21 @@ impl Lent {
             &self.draws,
             &self.given,
         ];
-        let (lists, costs, counts, set, change) = match outcome {
-            Outcome::Refused(_) => ([None; 2], [None; 2], [None; 3], None, None),
-            Outcome::Accepted {
-                plan,
-                seen,
-                costs,
-                counts,
-                set,
-                change,
-            } => (
-                [plan.as_deref(), seen.as_deref()],
-                *costs,
-                *counts,
-                *set,
-                *change,
-            ),
+        let nothing = Left::default();
+        let left = match outcome {
+            Outcome::Refused(_) => &nothing,
+            Outcome::Accepted(left) => left,
         };
-        let [plan, seen] = lists;
 
         [
             (read.iter().all(|list| list.is_unchanged()), READ),
-            (holds(&self.plan, plan), PLAN),
-            (hold(&self.costs, &costs), COST),
-            (hold(&self.counts, &counts), COUNT),
-            (hold([&self.set], &[set]), SET),
-            (holds(&self.seen, seen), SEEN),
-            (hold([&self.change], &[change]), CHANGE),
+            (holds(&self.plan, left.plan.as_deref()), PLAN),
+            (hold(&self.costs, &left.costs), COST),
+            (hold(&self.counts, &left.counts), COUNT),
+            (hold([&self.set], &[left.set]), SET),
+            (holds(&self.seen, left.seen.as_deref()), SEEN),
+            (hold([&self.change], &[left.change]), CHANGE),
+            (hold([&self.rise], &[left.rise]), RISE),
         ]
         .into_iter()
         .find_map(|(is_right, name)| (!is_right).then_some(name))
@@ -272,7 +271,7 @@ mod tests {
         assert_eq!(lent.difference(&outcome), name, "{call:?}");
     }
 
-    const FAULTS: [(Fault, &str); 17] = [
+    const FAULTS: [(Fault, &str); 20] = [
         (|lent| lent.vehicles.memory[0] ^= 1, READ),
         (|lent| *lent.stops.memory.last_mut().unwrap() ^= 1, READ),
         (
@@ -303,6 +302,9 @@ mod tests {
             CHANGE,
         ),
         (|lent| lent.change.memory[lent.change.end] ^= 1, CHANGE),
+        (|lent| lent.rise.memory[lent.rise.start - 1] ^= 1, RISE),
+        (|lent| lent.rise.memory[lent.rise.start] ^= 1 << 63, RISE),
+        (|lent| lent.rise.memory[lent.rise.end] ^= 1, RISE),
     ];
 
     #[test]
@@ -313,6 +315,7 @@ mod tests {
             Call::Cancel,
             Call::View,
             Call::MoveStop,
+            Call::Roadworks,
         ] {
             for is_refused in [false, true] {
                 check(call, is_refused, |_| (), None);

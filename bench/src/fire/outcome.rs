@@ -2,29 +2,33 @@ use super::arguments::Arguments;
 use plain::Plain;
 use sheet::{decode, encode, Call, Changed, Moved, Planner, Routes, Seen, Sheet};
 
-/// What a call must do: the number of its refusal, with all that it was lent as it was, or the plan and the results that it must
-/// leave. What is none is to be as it was.
+/// What a call must do: the number of its refusal, with all that it was lent as it was, or what it must leave.
 #[derive(Debug)]
 pub enum Outcome {
     Refused(u32),
-    Accepted {
-        plan: Option<Vec<u32>>,
-        /// What a caller sees of the plan.
-        seen: Option<Vec<u32>>,
-        /// A cost, or start and end cost, as the bits of f64.
-        costs: [Option<u64>; 2],
-        counts: [Option<u32>; 3],
-        /// The live stops, or those on no route.
-        set: Option<u64>,
-        change: Option<i64>,
-    },
+    Accepted(Left),
+}
+
+/// The plan and the results that a call leaves. What is none is to be as it was.
+#[derive(Debug, Default)]
+pub struct Left {
+    pub plan: Option<Vec<u32>>,
+    /// What a caller sees of the plan.
+    pub seen: Option<Vec<u32>>,
+    /// A cost, or start and end cost, as the bits of f64.
+    pub costs: [Option<u64>; 2],
+    pub counts: [Option<u32>; 3],
+    /// The live stops, or those on no route.
+    pub set: Option<u64>,
+    pub change: Option<i64>,
+    pub rise: Option<u64>,
 }
 
 impl Outcome {
     /// The table of refusals, and the plain rewrite.
     pub fn new(arguments: &Arguments) -> Self {
         match arguments.tested() {
-            Ok(sheet) => accepted(&sheet),
+            Ok(sheet) => Self::Accepted(left(&sheet)),
             Err(number) => Self::Refused(number),
         }
     }
@@ -33,21 +37,31 @@ impl Outcome {
     pub fn number(&self) -> u32 {
         match self {
             Self::Refused(number) => *number,
-            Self::Accepted { .. } => 0,
+            Self::Accepted(_) => 0,
         }
     }
 }
 
-fn accepted(sheet: &Sheet) -> Outcome {
+fn left(sheet: &Sheet) -> Left {
     let job = &sheet.job;
     let given = sheet.given.iter().map(|&stop| stop as usize);
     let given = given.collect::<Vec<_>>();
     let routes = || decode(&sheet.plan, job.vehicles.len(), job.stops.len()).expect("a plan");
-    let weighed = |routes: Routes| left(sheet, Some(&routes), Some(Plain::weigh(job, &routes)));
+    let weighed = |routes: Routes| Left {
+        plan: plan(sheet, &routes),
+        costs: alone(Plain::weigh(job, &routes)),
+        ..Left::default()
+    };
 
     match sheet.call {
-        Call::Weigh => left(sheet, None, Some(Plain::weigh(job, &routes()))),
-        Call::StartPlan => left(sheet, Some(&Plain::start_plan(job)), None),
+        Call::Weigh => Left {
+            costs: alone(Plain::weigh(job, &routes())),
+            ..Left::default()
+        },
+        Call::StartPlan => Left {
+            plan: plan(sheet, &Plain::start_plan(job)),
+            ..Left::default()
+        },
         Call::TwoOpt => weighed(Plain::two_opt(job, &routes(), [given[0], given[1]])),
         Call::Rebuild => weighed(Plain::rebuild(job, &routes(), &given)),
         Call::Exhaustive => weighed(Plain::exhaustive(job)),
@@ -55,14 +69,12 @@ fn accepted(sheet: &Sheet) -> Outcome {
         Call::Solve => {
             let (run, routes) = Plain::solve(job);
 
-            Outcome::Accepted {
-                plan: Some(encode(&routes, job.stops.len())),
-                seen: None,
+            Left {
+                plan: plan(sheet, &routes),
                 costs: [run.start_cost, run.end_cost].map(|cost| Some(bits(cost))),
                 counts: [run.rounds, run.improving_rounds, run.settled as u64]
                     .map(|count| Some(count as u32)),
-                set: None,
-                change: None,
+                ..Left::default()
             }
         }
         Call::Arrive => changed(sheet, Plain::arrive(job, &routes(), sheet.live(), given[0])),
@@ -78,55 +90,58 @@ fn accepted(sheet: &Sheet) -> Outcome {
                 Plain::move_stop(job, &routes(), sheet.vans(), stop, van, place),
             )
         }
+        Call::Roadworks => Left {
+            rise: Some(rise(sheet, &routes())),
+            ..Left::default()
+        },
     }
 }
 
 /// What an arrival or a cancellation leaves.
-fn changed(sheet: &Sheet, changed: Changed) -> Outcome {
-    Outcome::Accepted {
-        plan: Some(encode(&changed.routes, sheet.job.stops.len())),
-        seen: None,
-        costs: [Some(bits(changed.cost)), None],
-        counts: [None; 3],
+fn changed(sheet: &Sheet, changed: Changed) -> Left {
+    Left {
+        plan: plan(sheet, &changed.routes),
+        costs: alone(changed.cost),
         set: Some(changed.live),
-        change: None,
+        ..Left::default()
     }
 }
 
 /// What a view leaves.
-fn seen(sheet: &Sheet, seen: Seen) -> Outcome {
-    Outcome::Accepted {
-        plan: None,
-        seen: Some(encode(&seen.routes, sheet.job.stops.len())),
-        costs: [None; 2],
-        counts: [None; 3],
+fn seen(sheet: &Sheet, seen: Seen) -> Left {
+    Left {
+        seen: plan(sheet, &seen.routes),
         set: Some(seen.unplaced),
-        change: None,
+        ..Left::default()
     }
 }
 
 /// What a move leaves.
-fn moved(sheet: &Sheet, moved: Moved) -> Outcome {
-    Outcome::Accepted {
-        plan: Some(encode(&moved.routes, sheet.job.stops.len())),
-        seen: None,
-        costs: [None; 2],
-        counts: [None; 3],
-        set: None,
+fn moved(sheet: &Sheet, moved: Moved) -> Left {
+    Left {
+        plan: plan(sheet, &moved.routes),
         change: Some(moved.change),
+        ..Left::default()
     }
 }
 
-/// What a call of the others leaves that is no run.
-fn left(sheet: &Sheet, routes: Option<&Routes>, cost: Option<u64>) -> Outcome {
-    Outcome::Accepted {
-        plan: routes.map(|routes| encode(routes, sheet.job.stops.len())),
-        seen: None,
-        costs: [cost.map(bits), None],
-        counts: [None; 3],
-        set: None,
-        change: None,
-    }
+/// The most by which roadworks can make routes dearer. The true rise, by the cost on both tables, is never above that.
+fn rise(sheet: &Sheet, routes: &Routes) -> u64 {
+    let (job, road) = (&sheet.job, sheet.road());
+    let rise = Plain::roadworks(job, routes, road);
+
+    assert!(Plain::weigh(&job.lengthened(road), routes) - Plain::weigh(job, routes) <= rise);
+    rise
+}
+
+/// Routes as they cross.
+fn plan(sheet: &Sheet, routes: &Routes) -> Option<Vec<u32>> {
+    Some(encode(routes, sheet.job.stops.len()))
+}
+
+/// A cost, of a call that answers one.
+fn alone(cost: u64) -> [Option<u64>; 2] {
+    [Some(bits(cost)), None]
 }
 
 /// A cost as it crosses: exact in f64.

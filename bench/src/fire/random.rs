@@ -1,6 +1,7 @@
 //! Random arguments of every kind. They depend on the generator alone.
 
 use super::arguments::Arguments;
+use crate::proved::MAX_DISTANCE;
 use generate::{accepted_sheet, long_job, plan, refuse, sheet, small_job, Random, Sizes};
 use sheet::{contains, Call, Job, Sheet};
 
@@ -68,6 +69,10 @@ fn change(random: &mut Random, arguments: &mut Arguments) {
 
     if arguments.call.has_vans() && random.once_in(2) {
         return change_vans(random, arguments);
+    }
+
+    if arguments.call.has_road() && random.once_in(2) {
+        return change_road(random, arguments);
     }
 
     let stop_count = arguments.stops.len() as u32;
@@ -225,6 +230,86 @@ fn change_vans(random: &mut Random, arguments: &mut Arguments) {
             arguments.place = random.choose(&[0, end, end.wrapping_sub(1), end + 1, end + 2]);
         }
         _ => arguments.place = random.choose(&[stop_count, 64, 1 << 31, u32::MAX, noise]),
+    }
+}
+
+/// Changes the road of roadworks, or by how much it becomes longer.
+fn change_road(random: &mut Random, arguments: &mut Arguments) {
+    match random.below(6) {
+        0 => arguments.road.from = road_end(random, arguments.locations),
+        1 => arguments.road.to = road_end(random, arguments.locations),
+        2 => {
+            let legs = arguments.legs().concat();
+
+            if !legs.is_empty() {
+                [arguments.road.from, arguments.road.to] = random.choose(&legs);
+                arguments.road.more = metres(random, arguments);
+            }
+        }
+        3 => gather(random, arguments),
+        _ => arguments.road.more = metres(random, arguments),
+    }
+}
+
+/// A location, one that is none, or one with which a place in the table counted in 32 bits would be in the table again.
+fn road_end(random: &mut Random, locations: u32) -> u32 {
+    let some = random.small(0..=locations.saturating_sub(1));
+    let noise = random.number() as u32;
+
+    random.choose(&[
+        0,
+        some,
+        some,
+        locations.wrapping_sub(1),
+        locations,
+        locations.wrapping_add(1),
+        (u32::MAX / locations.max(1)).wrapping_add(1),
+        1 << 31,
+        u32::MAX,
+        noise,
+    ])
+}
+
+/// Metres for the road: none, as many as it may become longer, one more, or so many that 32 bits do not hold its new length.
+fn metres(random: &mut Random, arguments: &Arguments) -> u32 {
+    let length = arguments.road_length().unwrap_or(0);
+    let most = MAX_DISTANCE.saturating_sub(length);
+    let some = random.small(0..=most);
+    let round = length.wrapping_neg();
+    let noise = random.number() as u32;
+
+    random.choose(&[
+        0,
+        1,
+        some,
+        some,
+        most,
+        most,
+        most + 1,
+        MAX_DISTANCE,
+        MAX_DISTANCE + 1,
+        round.wrapping_sub(1),
+        round,
+        round.wrapping_add(some),
+        u32::MAX,
+        noise,
+    ])
+}
+
+/// Puts all vehicles and stops at one location, so that each leg is the same road, which becomes as long as it may be: for the
+/// highest rise.
+fn gather(random: &mut Random, arguments: &mut Arguments) {
+    let count = arguments.locations;
+    let location = random.small(0..=count.saturating_sub(1));
+    let place = location as usize * (count as usize + 1);
+
+    arguments.vehicles.fill(location);
+    arguments.stops.fill(location);
+    [arguments.road.from, arguments.road.to] = [location; 2];
+
+    if let Some(length) = arguments.distances.get_mut(place) {
+        *length = random.choose(&[0, 0, 1, 100_000, MAX_DISTANCE]);
+        arguments.road.more = MAX_DISTANCE - *length;
     }
 }
 

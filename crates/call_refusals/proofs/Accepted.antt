@@ -9,20 +9,23 @@ use lib.Dec.{leb, ltb}
 use borrow.Author.Tests.{ltb-false, leb-true, not-false}
 use Rattle.model.specs.Lists.{member, Once, allBelow, allOnce}
 use Rattle.model.specs.declared.Prices.{Prices}
-use Rattle.model.specs.Job.{Job, vehicleCount, stopCount}
+use Rattle.model.specs.declared.Road.{Road}
+use Rattle.model.specs.Job.{Job, vehicleCount, stopCount, entry}
 use Rattle.model.specs.Plan.{Plan, routeOf, Lent, Sizes, usedPart, decode}
 use Rattle.model.specs.StopSet.{contains, stopsOf}
 use Rattle.model.specs.Live.{Covers, cancelled}
+use Rattle.model.specs.Roads.{badRoad, badEntry}
 use Rattle.model.specs.Vans.{Move, Held, badVans, onOthersVan, beyondEnd, badMove}
 use Rattle.model.specs.Legs.{Affordable}
-use Rattle.model.specs.Refusals.{Arguments, naming, looking, moving, Call, Weigh, StartPlan, TwoOpt, Rebuild, Exhaustive, Pruned, Solve, Arrive, Cancel, View, MoveStop, asked, refusal, within, badLength, badDraws, badPrices, badSmoothing, badPlan, allLive, badLive, badLives, badGiven, badArrival, badCancellation, tooLarge}
+use Rattle.model.specs.Refusals.{Arguments, naming, looking, moving, lengthening, Call, Weigh, StartPlan, TwoOpt, Rebuild, Exhaustive, Pruned, Solve, Arrive, Cancel, View, MoveStop, Roadworks, asked, refusal, within, badLength, badDraws, badPrices, badSmoothing, badPlan, allLive, badLive, badLives, badGiven, badArrival, badCancellation, tooLarge}
 use Rattle.model.proofs.Lists.{neither, one-same}
 use Rattle.model.proofs.Counts.{Below, allBelow-below, allOnce-once}
 use Rattle.model.proofs.Order.{both}
 use Rattle.model.proofs.PlanForm.{isPlan-lent, concat-decode}
 use Rattle.model.proofs.Vans.{van-lt}
 use Rattle.call_tests.proofs.Live.{all-live}
-use Rattle.call_refusals.proofs.Passed.{none-applies, right-length, sized}
+use Rattle.road_tests.proofs.Laws.{on-table}
+use Rattle.call_refusals.proofs.Passed.{none-applies, places-passed, legs-passed, right-length, sized}
 use Rattle.distance.specs.Table.{InLimits}
 use Rattle.distance.proofs.Limits.{in-limits}
 
@@ -44,6 +47,7 @@ asked-by-all Arrive = (refl, refl, refl)
 asked-by-all Cancel = (refl, refl, refl)
 asked-by-all View = (refl, refl, refl)
 asked-by-all MoveStop = (refl, refl, refl)
+asked-by-all Roadworks = (refl, refl, refl)
 
 asked-of-table : (c : Call) → member 3 (asked c) ≡ true → (member 6 (asked c) ≡ true) × (member 7 (asked c) ≡ true)
 asked-of-table Weigh m = (refl, refl)
@@ -57,6 +61,7 @@ asked-of-table Arrive m = (refl, refl)
 asked-of-table Cancel m = (refl, refl)
 asked-of-table View m = both m refl
 asked-of-table MoveStop m = (refl, refl)
+asked-of-table Roadworks m = (refl, refl)
 
 -- a call that has prices has a table
 pub priced-table : (c : Call) → member 8 (asked c) ≡ true → member 3 (asked c) ≡ true
@@ -71,6 +76,7 @@ priced-table Arrive m = refl
 priced-table Cancel m = refl
 priced-table View m = both m refl
 priced-table MoveStop m = refl
+priced-table Roadworks m = refl
 
 -- one or two stops below n, not equal
 pub record Given (n : ℕ) (given : List ℕ) : Type 0 where
@@ -101,7 +107,8 @@ module _ (c : Call) (A : Arguments) (e : refusal c A ≡ 0) where
         limits = λ h.
             let t = asked-of-table c h in
             in-limits (A .job .vehicles) (A .job .stops) (A .job .locations) (A .job .distances) (none-applies c A e 1 (m .0)) (none-applies c A e 2 (m .1))
-            (none-applies c A e 3 h) (none-applies c A e 6 (t .0)) (none-applies c A e 7 (t .1));
+            (none-applies c A e 3 h)
+            (places-passed c A e (t .0)) (legs-passed c A e (t .1));
         sizes = s .sizes;
         long = s .long;
       }
@@ -207,3 +214,18 @@ module _ (J : Job) (plan : List ℕ) (vans : ℕ) (m : Move) (e : refusal MoveSt
         place = ltb-false _ _ (b .1);
         held = record { source = a .0; target = to };
       }
+
+-- 6 and 7: a road of the table, whose entry stays within the limit
+pub record Lengthens (l : ℕ) (ds : List ℕ) (road : Road) : Type 0 where
+  pub row : road .from < l
+  pub column : road .to < l
+  pub short : entry ds l (road .from) (road .to) + road .more ≤ 200000
+
+module _ (J : Job) (plan : List ℕ) (road : Road) (e : refusal Roadworks (lengthening J plan road) ≡ 0) where
+  pub lengthens : Lengthens (J .locations) (J .distances) road
+  unfolding badEntry
+  lengthens =
+      let six = neither (badRoad (J .locations) road) _ (none-applies Roadworks (lengthening J plan road) e 6 refl) in
+      let seven = neither (badEntry (J .locations) (J .distances) road) _ (none-applies Roadworks (lengthening J plan road) e 7 refl) in
+      let p = on-table (J .locations) road (six .0) in
+      record { row = p .0; column = p .1; short = ltb-false _ _ (seven .0) }

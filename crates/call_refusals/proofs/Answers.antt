@@ -12,14 +12,17 @@ use Rattle.model.specs.declared.Viewed.{Viewed}
 use Rattle.model.specs.declared.Viewed.the-variants as Seen
 use Rattle.model.specs.declared.Moved.{Moved}
 use Rattle.model.specs.declared.Moved.the-variants as M
+use Rattle.model.specs.declared.Raised.{Raised}
+use Rattle.model.specs.declared.Raised.the-variants as R
 use Rattle.model.specs.Whole.{whole}
 use Rattle.model.specs.Job.{stopCount}
 use Rattle.model.specs.Plan.{Plan, encode}
 use Rattle.model.specs.Cost.{cost}
 use Rattle.model.specs.Live.{liveCost}
 use Rattle.model.specs.Vans.{unplacedSet, view, moved, costChange}
-use Rattle.model.specs.Refusals.{Arguments, seenGiven, moveGiven, Call, StartPlan, View, MoveStop, refusal}
-use Rattle.model.specs.Calls.{weighed, written, changed, viewed, carried, leftBy, seenBy, lentPlan, made, newLive, planLeft, seenLeft, costAnswer, startAnswer, liveAnswer, viewAnswer, moveAnswer, saidByViewed, saidByMoved, saying, signedSaying, viewSaid, moveSaid, Views, Moves}
+use Rattle.model.specs.Roads.{ceiling}
+use Rattle.model.specs.Refusals.{Arguments, seenGiven, moveGiven, roadGiven, Call, StartPlan, View, MoveStop, Roadworks, refusal}
+use Rattle.model.specs.Calls.{weighed, written, changed, viewed, carried, raised, leftBy, seenBy, lentPlan, made, newLive, planLeft, seenLeft, costAnswer, startAnswer, liveAnswer, viewAnswer, moveAnswer, roadAnswer, saidByViewed, saidByMoved, saidByRaised, saying, signedSaying, viewSaid, moveSaid, roadSaid, Views, Moves, Raises}
 
 some-weighed : (x k : ℕ) → (x ≡ 0 → ⊥) → W.Refused x ≡ weighed x k
 some-weighed zero k h = absurd (h refl)
@@ -141,3 +144,29 @@ module _ (A : Arguments) where
   unfolding made
   moves-accepted z left e h k =
       moves (M.Change z) left (ap M.Change h ∙ ap (λ (y : ℕ). carried y change) (sym e)) (left-new MoveStop A left (sym e) k)
+
+-- ---- roadworks
+
+some-raised : (x rise : ℕ) → (x ≡ 0 → ⊥) → R.Refused x ≡ raised x rise
+some-raised zero rise h = absurd (h refl)
+some-raised (suc x) rise h = refl
+
+said-raised : (x rise : ℕ) → saidByRaised (raised x rise) ≡ saying x (rise ∷ [])
+unfolding saidByRaised
+said-raised zero rise = refl
+said-raised (suc x) rise = refl
+
+module _ (A : Arguments) where
+  -- the ceiling on the rise
+  abbrev most : ℕ
+  most = ceiling (A .job) (roadGiven A) (lentPlan A)
+
+  raises : (r : Raised) → r ≡ raised (refusal Roadworks A) most → Raises A r
+  unfolding roadAnswer roadSaid
+  raises r h = record { answer = h; said = ap saidByRaised h ∙ said-raised (refusal Roadworks A) most }
+
+  pub raises-refused : (x : ℕ) → x ≡ refusal Roadworks A → (x ≡ 0 → ⊥) → Raises A (R.Refused x)
+  raises-refused x e h = raises (R.Refused x) (some-raised x most h ∙ ap (λ (y : ℕ). raised y most) e)
+
+  pub raises-accepted : (rise : ℕ) → refusal Roadworks A ≡ 0 → rise ≡ ceiling (A .job) (roadGiven A) (lentPlan A) → Raises A (R.Rise rise)
+  raises-accepted rise e h = raises (R.Rise rise) (ap R.Rise h ∙ ap (λ (y : ℕ). raised y most) (sym e))

@@ -7,7 +7,7 @@ use native.Mathlib.Omega.{arith}
 use lib.Dec.{eqb, ltb}
 use borrow.Author.Tests.{eqb-true, eq-eqb, ne-eqb, ltb-true}
 use Rattle.model.specs.Lists.{member}
-use Rattle.model.specs.Refusals.{Arguments, Call, Weigh, StartPlan, TwoOpt, Rebuild, Exhaustive, Pruned, Solve, Arrive, Cancel, View, MoveStop, Test, tests, asked, firstOf, refusal}
+use Rattle.model.specs.Refusals.{Arguments, Call, Weigh, StartPlan, TwoOpt, Rebuild, Exhaustive, Pruned, Solve, Arrive, Cancel, View, MoveStop, Roadworks, Test, tests, asked, firstOf, refusal}
 use Rattle.model.proofs.Order.{both}
 use Rattle.call_refusals.proofs.Passed.{applies}
 
@@ -34,6 +34,7 @@ rises Arrive = refl
 rises Cancel = refl
 rises View = refl
 rises MoveStop = refl
+rises Roadworks = refl
 
 module _ (c : Call) (A : Arguments) where
   -- of the tests that the call makes, only one with a number above n applies

@@ -4,11 +4,13 @@ use mathlib.Core.Bool.{Bool, true, false, cond, _||_}
 use mathlib.Core.List.{List, [], _∷_}
 use Prim.Native.Nat.{ℕ, zero, suc}
 use Rattle.model.specs.declared.Prices.{Prices}
+use Rattle.model.specs.declared.Road.{Road}
 use Rattle.model.specs.Job.{Job, jobOf, vehicleCount, stopCount}
 use Rattle.model.specs.Plan.{decode}
 use Rattle.model.specs.Vans.{Move, badVans, badMove}
-use Rattle.model.specs.Refusals.{Arguments, asking, naming, looking, moving, stopGiven, liveSet, Weigh, StartPlan, TwoOpt, Rebuild, Exhaustive, Pruned, Solve, Arrive, Cancel, View, MoveStop, refusal, badVehicles, badStops, badTable, badLength, badSeen, badLengths, badDraws, badLocations, badDistances, badPrices, badPlan, badLive, badLent, badGiven, badArrival, badCancellation, tooLarge, unpriced}
-use Rattle.call_refusals.specs.Order.{ofShape, ofEntries, ofJob, ofNumbers, first}
+use Rattle.model.specs.Roads.{badRoad, badEntry}
+use Rattle.model.specs.Refusals.{Arguments, asking, naming, looking, moving, lengthening, stopGiven, liveSet, Weigh, StartPlan, TwoOpt, Rebuild, Exhaustive, Pruned, Solve, Arrive, Cancel, View, MoveStop, Roadworks, refusal, badVehicles, badStops, badTable, badLength, badSeen, badLengths, badDraws, badLocations, badRoads, badPlaces, badDistances, badEntries, badLegs, badPrices, badPlan, badLive, badLent, badGiven, badArrival, badCancellation, tooLarge, unpriced}
+use Rattle.call_refusals.specs.Order.{ofShape, ofEntries, ofRoad, ofJob, ofNumbers, first}
 
 -- 1 to 4, then the rest
 shape-first : (b₁ b₂ b₃ b₄ : Bool) (r : ℕ) → cond b₁ 1 (cond b₂ 2 (cond b₃ 3 (cond b₄ 4 r))) ≡ first (cond b₁ 1 (cond b₂ 2 (cond b₃ 3 (cond b₄ 4 0)))) r
@@ -51,6 +53,10 @@ first-of : (a b c : ℕ) → first (first a b) c ≡ first a (first b c)
 first-of zero b c = refl
 first-of (suc a) b c = refl
 
+first-none : (a : ℕ) → first a 0 ≡ a
+first-none zero = refl
+first-none (suc a) = refl
+
 first-some : (a b : ℕ) → (a ≡ 0 → ⊥) → first a b ≡ a
 first-some zero b h = absurd (h refl)
 first-some (suc a) b h = refl
@@ -79,9 +85,8 @@ module _ (A : Arguments) where
   abbrev pub jobTests : ℕ
   jobTests = ofJob (A .job .vehicles) (A .job .stops) (A .job .locations) (A .job .distances) (A .job .prices) (A .plan)
 
--- the calls that write to no list but the plan
+-- 1 to 4, then what comes after, of the calls that write to no list but the plan
 module _ (A : Arguments) (plain : A .seen ≡ []) where
-  -- 1 to 4, then what comes after
   leading : (r : ℕ)
       → cond (badVehicles (A .job .vehicles)) 1
       (cond (badStops (A .job .stops)) 2 (cond (badTable (A .job .locations) (A .job .distances)) 3 (cond (badLengths A) 4 r)))
@@ -98,12 +103,27 @@ module _ (A : Arguments) (plain : A .seen ≡ []) where
       ∙ shape-first (badVehicles (A .job .vehicles)) (badStops (A .job .stops)) (badTable (A .job .locations) (A .job .distances))
       (badLength (vehicleCount (A .job)) (stopCount (A .job)) (A .plan)) r
 
+-- a call that writes to no list but the plan, and has no road
+abbrev Plain : Arguments → Type 0
+Plain A = _≡_ {A = List (List ℕ) × List Road} (A .seen, A .roads) ([], [])
+
+module _ (A : Arguments) (plain : Plain A) where
+  -- 1 to 4, then what comes after
+  shaped : (r : ℕ)
+      → cond (badVehicles (A .job .vehicles)) 1
+      (cond (badStops (A .job .stops)) 2 (cond (badTable (A .job .locations) (A .job .distances)) 3 (cond (badLengths A) 4 r)))
+      ≡ first (shapeTests A) r
+  shaped r = leading A (ap (λ p. p .0) plain) r
+
   -- 6 and 7, then what comes after
-  listed : (r : ℕ)
-      → cond (badLocations (A .job .vehicles) (A .job .stops) (A .job .locations)) 6 (cond (badDistances (A .job .distances)) 7 r)
-      ≡ first (entryTests A) r
+  listed : (r : ℕ) → cond (badPlaces A) 6 (cond (badLegs A) 7 r) ≡ first (entryTests A) r
   unfolding ofEntries
-  listed r = entries-first (badLocations (A .job .vehicles) (A .job .stops) (A .job .locations)) (badDistances (A .job .distances)) r
+  listed r =
+      ap
+      (λ (roads : List Road). cond (badRoads (A .job .locations) roads || badLocations (A .job .vehicles) (A .job .stops) (A .job .locations)) 6
+      (cond (badEntries (A .job .locations) (A .job .distances) roads || badDistances (A .job .distances)) 7 r))
+      (ap (λ p. p .1) plain)
+      ∙ entries-first (badLocations (A .job .vehicles) (A .job .stops) (A .job .locations)) (badDistances (A .job .distances)) r
 
   -- 1 to 4 and 6 to 8, then what comes after
   priced : (r : ℕ) → first (shapeTests A) (first (entryTests A) (cond (badPrices (A .job .prices)) 8 r)) ≡ first (jobTests A) r
@@ -114,16 +134,16 @@ module _ (A : Arguments) (plain : A .seen ≡ []) where
       ∙ sym (first-of (shapeTests A) _ r)
 
   pub start-order : refusal StartPlan A ≡ first (shapeTests A) (entryTests A)
-  unfolding refusal ofEntries
-  start-order = leading _
+  unfolding refusal
+  start-order = shaped _ ∙ ap (first (shapeTests A)) (listed 0 ∙ first-none (entryTests A))
 
   pub weigh-order : refusal Weigh A ≡ first (jobTests A) (cond (badLent A) 11 0)
   unfolding refusal
-  weigh-order = leading _ ∙ ap (first (shapeTests A)) (listed _) ∙ priced _
+  weigh-order = shaped _ ∙ ap (first (shapeTests A)) (listed _) ∙ priced _
 
   given-order : refusal Rebuild A ≡ first (jobTests A) (cond (badLent A) 11 (cond (badGiven (stopCount (A .job)) (A .given)) 12 0))
   unfolding refusal
-  given-order = leading _ ∙ ap (first (shapeTests A)) (listed _) ∙ priced _
+  given-order = shaped _ ∙ ap (first (shapeTests A)) (listed _) ∙ priced _
 
   -- a test after 12
   given-then : (r : ℕ) → first (jobTests A) (cond (badLent A) 11 (cond (badGiven (stopCount (A .job)) (A .given)) 12 r)) ≡ first (refusal Rebuild A) r
@@ -135,11 +155,11 @@ module _ (A : Arguments) (plain : A .seen ≡ []) where
   -- arrive and cancel make the tests of rebuild, then their own
   pub arrive-order : refusal Arrive A ≡ first (refusal Rebuild A) (cond (badArrival (liveSet A) (stopGiven A)) 16 0)
   unfolding refusal
-  arrive-order = leading _ ∙ ap (first (shapeTests A)) (listed _) ∙ priced _ ∙ given-then _
+  arrive-order = shaped _ ∙ ap (first (shapeTests A)) (listed _) ∙ priced _ ∙ given-then _
 
   pub cancel-order : refusal Cancel A ≡ first (refusal Rebuild A) (cond (badCancellation (liveSet A) (stopGiven A)) 17 0)
   unfolding refusal
-  cancel-order = leading _ ∙ ap (first (shapeTests A)) (listed _) ∙ priced _ ∙ given-then _
+  cancel-order = shaped _ ∙ ap (first (shapeTests A)) (listed _) ∙ priced _ ∙ given-then _
 
   -- two_opt makes the tests of rebuild, and pruned those of exhaustive
   pub two-opt-order : refusal Rebuild A ≡ refusal TwoOpt A
@@ -148,7 +168,7 @@ module _ (A : Arguments) (plain : A .seen ≡ []) where
 
   pub exhaustive-order : refusal Exhaustive A ≡ first (jobTests A) (cond (tooLarge (vehicleCount (A .job)) (stopCount (A .job))) 13 0)
   unfolding refusal
-  exhaustive-order = leading _ ∙ ap (first (shapeTests A)) (listed _) ∙ priced _
+  exhaustive-order = shaped _ ∙ ap (first (shapeTests A)) (listed _) ∙ priced _
 
   pub pruned-order : refusal Exhaustive A ≡ refusal Pruned A
   unfolding refusal
@@ -157,7 +177,7 @@ module _ (A : Arguments) (plain : A .seen ≡ []) where
   pub solve-order : refusal Solve A
       ≡ first (shapeTests A) (cond (badDraws (A .draws)) 5 (first (entryTests A) (ofNumbers (A .job .prices) (A .smoothing) (A .limit))))
   unfolding refusal ofNumbers
-  solve-order = leading _ ∙ ap (λ (k : ℕ). first (shapeTests A) (cond (badDraws (A .draws)) 5 k)) (listed _)
+  solve-order = shaped _ ∙ ap (λ (k : ℕ). first (shapeTests A) (cond (badDraws (A .draws)) 5 k)) (listed _)
 
 pub job-order : (vs ss : List ℕ) (l : ℕ) (ds : List ℕ) (p : Prices) (plan : List ℕ)
     → first (refusal StartPlan (asking (jobOf vs ss l ds unpriced) plan [])) (cond (badPrices p) 8 0) ≡ ofJob vs ss l ds p plan
@@ -197,7 +217,7 @@ pub move-order : (J : Job) (plan : List ℕ) (vans : ℕ) (m : Move)
 unfolding refusal
 move-order J plan vans m =
     let A : Arguments = moving J plan vans m in
-    leading A refl _
+    shaped A refl _
     ∙ ap (first (shapeTests A)) (listed A refl _)
     ∙ priced A refl _
     ∙ given-then A refl _
@@ -218,3 +238,26 @@ view-order J plan vans seen =
     ap (λ (k : ℕ). cond (badVehicles (J .vehicles)) 1 (cond (badStops (J .stops)) 2 k))
     (or-next (badLength v n seen) (badLength v n plan) 4 _
     ∙ ap (λ (k : ℕ). cond (badLength v n seen) 4 (cond (badLength v n plan) 4 (cond (badPlan v n plan) 11 k))) (or-next (badVans v vans) false 15 0))
+
+-- 6 and 7, of a road and of the lists, then the rest
+road-first : (a b c d : Bool) (r : ℕ)
+    → cond (a || b) 6 (cond (c || d) 7 r) ≡ first (cond a 6 (first (cond b 6 (cond d 7 0)) (cond c 7 0))) r
+road-first true b c d r = refl
+road-first false true c d r = refl
+road-first false false true true r = refl
+road-first false false true false r = refl
+road-first false false false true r = refl
+road-first false false false false r = refl
+
+pub road-order : (J : Job) (plan : List ℕ) (road : Road)
+    → refusal Roadworks (lengthening J plan road)
+    ≡ first (ofShape (J .vehicles) (J .stops) (J .locations) (J .distances) plan)
+    (first (ofRoad (J .vehicles) (J .stops) (J .locations) (J .distances) road)
+    (cond (badPrices (J .prices)) 8 (cond (badPlan (vehicleCount J) (stopCount J) plan) 11 0)))
+unfolding refusal ofRoad ofEntries
+road-order J plan road =
+    let A : Arguments = lengthening J plan road in
+    leading A refl _
+    ∙ ap (first (shapeTests A))
+    (road-first (badRoad (J .locations) road) (badLocations (J .vehicles) (J .stops) (J .locations)) (badEntry (J .locations) (J .distances) road)
+    (badDistances (J .distances)) _)

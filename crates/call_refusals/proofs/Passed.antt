@@ -10,12 +10,13 @@ use borrow.Author.Tests.{eqb-true, ltb-true, not-false}
 use Rattle.model.specs.Lists.{member}
 use Rattle.model.specs.Plan.{Sizes}
 use Rattle.model.specs.declared.Prices.{Prices}
-use Rattle.model.specs.Job.{jobOf, vehicleCount, stopCount}
-use Rattle.model.specs.Refusals.{Arguments, asking, Call, Test, tests, asked, firstOf, refusal, badLength, badSeen, StartPlan, unpriced}
+use Rattle.model.specs.Job.{vehicleCount, stopCount}
+use Rattle.model.specs.Refusals.{Arguments, Call, Test, tests, asked, firstOf, refusal, badVehicles, badStops, badTable, badLength, badSeen, badLocations, badRoads, badDistances, badEntries}
 use Rattle.model.proofs.Lists.{neither}
-use Rattle.call_refusals.specs.Order.{first, ofJob}
+use Rattle.call_refusals.specs.Order.{first, ofShape, ofJob}
 use Rattle.call_tests.proofs.Laws.{few-vehicles, few-stops}
-use Rattle.call_refusals.proofs.Order.{job-order}
+use Rattle.distance.specs.Table.{Square}
+use Rattle.distance.proofs.Limits.{square}
 
 -- no test has the number 0
 abbrev numbered : List Test → Bool
@@ -51,6 +52,13 @@ module _ (c : Call) (A : Arguments) where
   unfolding refusal
   none-applies e k m = no-test tests refl e k m
 
+  -- 6 and 7, of the vehicles, the stops and the table
+  pub places-passed : refusal c A ≡ 0 → member 6 (asked c) ≡ true → badLocations (A .job .vehicles) (A .job .stops) (A .job .locations) ≡ false
+  places-passed e m = neither (badRoads (A .job .locations) (A .roads)) _ (none-applies e 6 m) .1
+
+  pub legs-passed : refusal c A ≡ 0 → member 7 (asked c) ≡ true → badDistances (A .job .distances) ≡ false
+  legs-passed e m = neither (badEntries (A .job .locations) (A .job .distances) (A .roads)) _ (none-applies e 7 m) .1
+
 -- 4: a list is as long as it is to be
 pub right-length : (v n : ℕ) (xs : List ℕ) → badLength v n xs ≡ false → length xs ≡ v + n
 unfolding badLength
@@ -73,12 +81,36 @@ sized c A m₁ m₂ m₄ e =
       long = right-length _ _ _ (neither (badSeen (vehicleCount (A .job)) (stopCount (A .job)) (A .seen)) _ (none-applies c A e 4 m₄) .1);
     }
 
+-- of the first four tests none applies
+shape-passed : (b₁ b₂ b₃ b₄ : Bool) → _≡_ {A = ℕ} (cond b₁ 1 (cond b₂ 2 (cond b₃ 3 (cond b₄ 4 0)))) 0 → (b₁ ≡ false) × (b₂ ≡ false) × (b₃ ≡ false) × (b₄ ≡ false)
+shape-passed true b₂ b₃ b₄ e = absurd (omega arith)
+shape-passed false true b₃ b₄ e = absurd (omega arith)
+shape-passed false false true b₄ e = absurd (omega arith)
+shape-passed false false false true e = absurd (omega arith)
+shape-passed false false false false e = (refl, refl, refl, refl)
+
+-- 1 to 4, before the later tests are made
+module _ (vs ss : List ℕ) (l : ℕ) (ds plan : List ℕ) (x : ℕ) (e : x ≡ ofShape vs ss l ds plan) (z : x ≡ 0) where
+  passed : (badVehicles vs ≡ false) × (badStops ss ≡ false) × (badTable l ds ≡ false) × (badLength (length vs / 2) (length ss) plan ≡ false)
+  unfolding ofShape
+  passed = shape-passed (badVehicles vs) (badStops ss) (badTable l ds) (badLength (length vs / 2) (length ss) plan) (sym e ∙ z)
+
+  pub shape-sized : Sized (length vs / 2) (length ss) plan
+  shape-sized =
+      record {
+        sizes = record { vehicles = few-vehicles vs (passed .0); stops = few-stops ss (passed .1) };
+        long = right-length _ _ _ (passed .3);
+      }
+
+  pub shape-square : Square l ds
+  shape-square = square l ds (passed .2)
+
 first-zero : (a b : ℕ) → first a b ≡ 0 → a ≡ 0
 first-zero zero b e = refl
 first-zero (suc a) b e = e
 
--- the same before the later tests are made
+-- the same where 6 to 8 are passed too
 pub job-sized : (vs ss : List ℕ) (l : ℕ) (ds : List ℕ) (p : Prices) (plan : List ℕ) (x : ℕ) → x ≡ ofJob vs ss l ds p plan → x ≡ 0
     → Sized (length vs / 2) (length ss) plan
-job-sized vs ss l ds p plan x e z =
-    sized StartPlan (asking (jobOf vs ss l ds unpriced) plan []) refl refl refl (first-zero _ _ (job-order vs ss l ds p plan ∙ sym e ∙ z))
+unfolding ofJob
+job-sized vs ss l ds p plan x e z = shape-sized vs ss l ds plan (ofShape vs ss l ds plan) refl (first-zero _ _ (sym e ∙ z))

@@ -5,6 +5,8 @@ use mathlib.Core.List.{List}
 use lib.ListN.{length}
 use Rattle.model.specs.Refusals.{badVehicles, badStops, badTable, badLength, badLocations, badDistances, badPrices, badSmoothing, badLimit}
 use Rattle.model.specs.declared.Prices.{Prices}
+use Rattle.model.specs.declared.Road.{Road}
+use Rattle.model.specs.Roads.{badRoad, badEntry}
 
 -- the first of two that is not 0
 abbrev pub first : ℕ → ℕ → ℕ
@@ -20,6 +22,11 @@ ofShape vs ss l ds plan =
 -- 6 and 7
 unfoldable pub ofEntries : List ℕ → List ℕ → ℕ → List ℕ → ℕ
 ofEntries vs ss l ds = cond (badLocations vs ss l) 6 (cond (badDistances ds) 7 0)
+
+-- 6 and 7 where a road gets longer
+unfoldable pub ofRoad : List ℕ → List ℕ → ℕ → List ℕ → Road → ℕ
+unfolding ofEntries
+ofRoad vs ss l ds road = cond (badRoad l road) 6 (first (ofEntries vs ss l ds) (cond (badEntry l ds road) 7 0))
 
 -- 1 to 4 and 6 to 8: what is asked of the job by every call that knows its prices
 unfoldable pub ofJob : List ℕ → List ℕ → ℕ → List ℕ → Prices → List ℕ → ℕ

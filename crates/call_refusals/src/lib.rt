@@ -2,10 +2,12 @@
 ghost use mathlib.Core.Path.{_≡_};
 ghost use mathlib.Core.List.{[]};
 ghost use Rattle.model.specs.Job.{jobOf};
-ghost use Rattle.model.specs.Refusals.{asking, naming, looking, moving, tableless, refusal, Weigh, StartPlan, Rebuild, Exhaustive, Solve, Arrive, Cancel, View, MoveStop, unpriced, running};
+ghost use Rattle.model.specs.Refusals.{asking, naming, looking, moving, lengthening, tableless, refusal, Weigh, StartPlan, Rebuild, Exhaustive, Solve, Arrive, Cancel, View, MoveStop, Roadworks, unpriced, running};
 ghost use Rattle.model.specs.Vans.{moveTo};
-ghost use Rattle.call_refusals.specs.Order.{ofShape, ofEntries, ofJob, ofNumbers};
+ghost use Rattle.call_refusals.specs.Order.{ofShape, ofEntries, ofRoad, ofJob, ofNumbers};
+ghost use Rattle.distance.specs.Table.{Square};
 use model::Prices;
+use model::Road;
 
 // The first of 1 to 4 that applies, or 0.
 fn of_shape(vehicles: &[u32], stops: &[u32], locations: u32, distances: &[u32], plan: &[u32]) -> u32
@@ -339,5 +341,54 @@ pub fn of_move_stop(
         15
     } else {
         0
+    }
+}
+
+// The first of 6 and 7 that applies where a road gets longer, or 0. The road is of the table before its entry is looked up.
+fn of_road(vehicles: &[u32], stops: &[u32], locations: u32, distances: &[u32], road: Road) -> u32
+    requires { ⌜ Square locations (now distances) ⌝ }
+    ensures { λ r. ⌜ r ≡ ofRoad (now (vehicles .entry)) (now (stops .entry)) locations (now (distances .entry)) road ⌝ }
+{
+    if road_tests::bad_road(locations, road) {
+        return 6;
+    }
+    let entries = of_entries(vehicles, stops, locations, distances);
+    if entries != 0 {
+        return entries;
+    }
+    if road_tests::bad_entry(locations, distances, road) {
+        7
+    } else {
+        0
+    }
+}
+
+// What roadworks is refused with: 1 to 4, 6 to 8, 11, or 0.
+pub fn of_roadworks(
+    vehicles: &[u32],
+    stops: &[u32],
+    locations: u32,
+    distances: &[u32],
+    prices: Prices,
+    plan: &[u32],
+    road: Road,
+) -> u32
+    ensures { λ r. ⌜ r ≡ refusal Roadworks (lengthening (jobOf (now (vehicles .entry)) (now (stops .entry)) locations (now (distances .entry)) prices) (now (plan .entry)) road) ⌝ }
+{
+    let shape = of_shape(vehicles, stops, locations, distances, plan);
+    if shape != 0 {
+        return shape;
+    }
+    let entries = of_road(vehicles, stops, locations, distances, road);
+    if entries != 0 {
+        return entries;
+    }
+    if call_tests::bad_prices(prices) {
+        return 8;
+    }
+    if plan_form::is_plan(plan, vehicles.len() / 2, stops.len()) {
+        0
+    } else {
+        11
     }
 }

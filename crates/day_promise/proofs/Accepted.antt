@@ -6,7 +6,7 @@ use Rattle.model.specs.Lists.{member}
 use Rattle.model.specs.Job.{Job}
 use Rattle.model.specs.Refusals.{Arguments, Call, Arrive, Cancel, asked, refusal}
 use Rattle.model.specs.Days.{Event, Arrival, Cancellation, Day, callMade, argumentsOf, dayAfter, WithinLimits, DayPromise}
-use Rattle.call_refusals.proofs.Passed.{none-applies}
+use Rattle.call_refusals.proofs.Passed.{none-applies, places-passed, legs-passed}
 use Rattle.day_promise.proofs.Theorem.{day}
 
 -- of a call that makes these tests
@@ -17,8 +17,8 @@ within c A e m₁ m₂ m₃ m₆ m₇ m₈ =
       vehicles = none-applies c A e 1 m₁;
       stops = none-applies c A e 2 m₂;
       table = none-applies c A e 3 m₃;
-      locations = none-applies c A e 6 m₆;
-      distances = none-applies c A e 7 m₇;
+      locations = places-passed c A e m₆;
+      distances = legs-passed c A e m₇;
       prices = none-applies c A e 8 m₈;
     }
 

@@ -5,17 +5,16 @@ use native.Mathlib.Omega.{arith}
 use mathlib.Core.List.{[], _∷_}
 use lib.ListN.{length, length-append, getD}
 use Rattle.model.specs.Lists.{concat}
-use Rattle.model.specs.Job.{Job, entry, distance}
+use Rattle.model.specs.Job.{Job, distance}
 use Rattle.model.specs.Plan.{Plan, placed}
 use Rattle.model.specs.Legs.{Affordable}
 use Rattle.model.specs.Cost.{routeLength, price, drivingFrom, drivingCost}
-use Rattle.model.proofs.Cost.{driving-nil, driving-cons, drivingCost-is, routeLength-le}
+use Rattle.model.proofs.Cost.{entry-le, driving-nil, driving-cons, drivingCost-is, routeLength-le}
 use Rattle.delivery.proofs.Laws.{dearest, price-small, price-apart}
 
 module _ (J : Job) (short : (i : ℕ) → getD (J .distances) i 0 ≤ 200000) where
   distance-small : (a b : ℕ) → distance J a b ≤ 200000
-  unfolding entry
-  distance-small a b = short (a * J .locations + b)
+  distance-small a b = entry-le (J .distances) (J .locations) 200000 short a b
 
   -- all routes together, those of the vehicles from k on
   total : ℕ → Plan → ℕ

@@ -8,12 +8,13 @@ use mathlib.Core.List.{List, [], _∷_, _++_, reverse, reverse-cons}
 use lib.ListN.{length, getD, take, drop, length-take, length-drop, drop-of-length-le}
 use lib.Seq.{drop-cons, take-suc}
 use borrow.Author.Tests.{lt-ltb, le-ltb, eq-eqb}
-use Rattle.model.specs.Job.{Job, startOf, endOf, locationOf, entry, distance}
+use Rattle.model.specs.Job.{Job, startOf, endOf, locationOf, distance}
 use Rattle.model.specs.Plan.{Route}
 use Rattle.model.specs.Legs.{leaves, reaches, legAt, depot, IsPlace, LegTable, Fits}
 use Rattle.model.specs.Cost.{legs, routeLength}
 use Rattle.model.specs.declared.Prices.{Prices}
 use Rattle.model.proofs.Lists.{one-same}
+use Rattle.model.proofs.Cost.{entry-le}
 use Rattle.model.proofs.Counts.{count-take-le, count-drop-le}
 use Rattle.distance.specs.Ways.{tableLegs, walked, walkedBack, lastPlace, Below, Drivable, RouteLength}
 
@@ -28,8 +29,7 @@ below-tail n s r h x k = h x (omega arith)
 -- ---- one leg
 
 pub leg-small : (t : List ℕ) (a b : ℕ) → LegTable t → legAt t a b ≤ 200000
-unfolding entry
-leg-small t a b h = h .small (a * 80 + b)
+leg-small t a b h = entry-le t 80 200000 (h .small) a b
 
 module _ (J : Job) (p : ℕ) where
   pub leaves-stop : p < 64 → leaves J p ≡ locationOf J p

@@ -17,13 +17,13 @@ use Rattle.distance.specs.Table.{Square, InLimits}
 all-at : (n : ℕ) (xs : List ℕ) → allBelow n xs ≡ true → (i : ℕ) → i < length xs → getD xs i 0 < n
 all-at n xs h i k = below-at n xs i (allBelow-below n xs h) k
 
-module _ (vs ss : List ℕ) (l : ℕ) (ds : List ℕ) where
-  square : badTable l ds ≡ false → Square l ds
-  unfolding badTable
-  square h =
-      let p = neither (ltb 80 l) (not (eqb (length ds) (l * l))) h in
-      record { locations = ltb-false 80 l (p .0); square = eqb-true (length ds) (l * l) (not-false _ (p .1)) }
+pub square : (l : ℕ) (ds : List ℕ) → badTable l ds ≡ false → Square l ds
+unfolding badTable
+square l ds h =
+    let p = neither (ltb 80 l) (not (eqb (length ds) (l * l))) h in
+    record { locations = ltb-false 80 l (p .0); square = eqb-true (length ds) (l * l) (not-false _ (p .1)) }
 
+module _ (vs ss : List ℕ) (l : ℕ) (ds : List ℕ) where
   short : badDistances ds ≡ false → (i : ℕ) → getD ds i 0 ≤ 200000
   unfolding badDistances
   short h i = go (decLt i (length ds))
@@ -43,7 +43,7 @@ module _ (vs ss : List ℕ) (l : ℕ) (ds : List ℕ) where
         even = omega arith;
         vehicles = ltb-false 32 (length vs) (v .1);
         stops = ltb-false 64 (length ss) S;
-        table = square T;
+        table = square l ds T;
         ends = all-at l vs (p .0);
         places = all-at l ss (p .1);
         short = short D;

@@ -11,7 +11,7 @@ ghost use Rattle.distance.specs.Table.{Square, InLimits, isPlace, startA
 ghost use Rattle.distance.specs.Ways.{Drivable, RouteLength};
 
 // The metres from one location to another. No other function reads the job's own table.
-fn lookup(locations: u32, distances: &[u32], from: u32, to: u32) -> u32
+pub fn lookup(locations: u32, distances: &[u32], from: u32, to: u32) -> u32
     requires { ⌜ Square locations (now distances) × (from < locations) × (to < locations) ⌝ }
     ensures { λ r. ⌜ r ≡ entry (now (distances .entry)) locations from to ⌝ }
 {

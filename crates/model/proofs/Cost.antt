@@ -5,13 +5,13 @@ use native.Mathlib.Nat.{le-of-suc-le-suc, zero-add, add-zero, add-suc, suc-add, 
 use native.Mathlib.Decide.{decLt}
 use mathlib.Core.Path.{_≡_, refl, sym, _∙_}
 use mathlib.Core.Logic.{_≢_}
-use mathlib.Core.List.{[], _∷_}
+use mathlib.Core.List.{List, [], _∷_}
 use lib.Dec.{ltb}
-use lib.ListN.{length}
+use lib.ListN.{length, getD}
 use borrow.Author.Tests.{lt-ltb, le-ltb}
 use Rattle.model.specs.declared.Prices.{Prices}
 use Rattle.model.specs.Lists.{change}
-use Rattle.model.specs.Job.{Job, stopCount, startOf, endOf, locationOf, distance}
+use Rattle.model.specs.Job.{Job, stopCount, startOf, endOf, locationOf, entry, distance}
 use Rattle.model.specs.Plan.{Plan, Route, routeOf, placed}
 use Rattle.model.specs.TwoOpt.{setRoute}
 use Rattle.model.specs.Cost.{legs, routeLength, price, drivingFrom, drivingCost, missedCost, cost}
@@ -27,6 +27,11 @@ price-is p d = refl
 pub missedCost-is : (p : Prices) (m : ℕ) → missedCost p m ≡ m * p .missed
 unfolding missedCost
 missedCost-is p m = refl
+
+-- no entry of a table is above what none of its numbers is above
+pub entry-le : (ds : List ℕ) (l D : ℕ) → ((i : ℕ) → getD ds i 0 ≤ D) → (a b : ℕ) → entry ds l a b ≤ D
+unfolding entry
+entry-le ds l D h a b = h (a * l + b)
 
 module _ (J : Job) where
   pub legs-nil : (from to : ℕ) → legs J from [] to ≡ distance J from to

@@ -25,6 +25,8 @@ pub mod Live
 pub mod Placings
 pub mod Vans
 pub mod VansA
+pub mod Roads
+pub mod RoadsA
 pub mod Runs
 pub mod Promised
 pub mod Tasks

@@ -9,14 +9,14 @@ use mathlib.Core.List.{List, [], _∷_, _++_}
 use lib.ListN.{length, getD, take, drop, length-append}
 use Rattle.model.specs.declared.Prices.{Prices}
 use Rattle.model.specs.Lists.{concat, count, Once, largest}
-use Rattle.model.specs.Job.{Job, stopCount, locationOf, startOf, endOf, entry, distance}
+use Rattle.model.specs.Job.{Job, stopCount, locationOf, startOf, endOf, distance}
 use Rattle.model.specs.Plan.{Plan, Route, routeOf, placed}
 use Rattle.model.specs.Cost.{legs, routeLength, price, cost}
 use Rattle.model.specs.TwoOpt.{setRoute}
 use Rattle.model.specs.Region.{Region, regions, drained, Stretches}
 use Rattle.model.specs.Rebuild.{replaced, rebuild, Arrangement, Unbeaten}
 use Rattle.model.specs.Promise.{sufficient}
-use Rattle.model.proofs.Cost.{legs-nil, legs-cons, routeLength-is, routeLength-le, price-is, price-le, missedCost-is, cost-is, driving-change, routeCost}
+use Rattle.model.proofs.Cost.{entry-le, legs-nil, legs-cons, routeLength-is, routeLength-le, price-is, price-le, missedCost-is, cost-is, driving-change, routeCost}
 use Rattle.model.proofs.Counts.{placed-change, count-route, length-le, Below, once-few}
 use Rattle.model.proofs.Lists.{Tested, tested, one-same, one-other, change-same}
 use Rattle.model.proofs.Regions.{regions-stretches, first-stretch}
@@ -35,8 +35,7 @@ abbrev longest : Job → ℕ
 longest J = largest (J .distances)
 
 pub distance-le : (J : Job) (a b : ℕ) → distance J a b ≤ longest J
-unfolding entry
-distance-le J a b = largest-at (J .distances) (a * J .locations + b)
+distance-le J a b = entry-le (J .distances) (J .locations) _ (largest-at (J .distances)) a b
 
 -- ---- one stop more on a route
 

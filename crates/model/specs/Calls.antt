@@ -19,6 +19,8 @@ use Rattle.model.specs.declared.Viewed.{Viewed}
 use Rattle.model.specs.declared.Viewed.the-variants as Seen
 use Rattle.model.specs.declared.Moved.{Moved}
 use Rattle.model.specs.declared.Moved.the-variants as M
+use Rattle.model.specs.declared.Raised.{Raised}
+use Rattle.model.specs.declared.Raised.the-variants as R
 use Rattle.model.specs.Whole.{whole, amount}
 use Rattle.model.specs.Job.{Job, vehicleCount, stopCount}
 use Rattle.model.specs.Plan.{Plan, encode, decode}
@@ -30,7 +32,8 @@ use Rattle.model.specs.Run.{Task, taskFor, State, Round, startState, rou
 use Rattle.model.specs.StopSet.{including, excluding}
 use Rattle.model.specs.Live.{liveCost, arrived, cancelled}
 use Rattle.model.specs.Vans.{unplacedSet, view, moved, costChange}
-use Rattle.model.specs.Refusals.{Arguments, running, stopGiven, liveSet, moveGiven, seenGiven, Call, Weigh, StartPlan, TwoOpt, Rebuild, Exhaustive, Pruned, Solve, Arrive, Cancel, View, MoveStop, refusal}
+use Rattle.model.specs.Roads.{ceiling}
+use Rattle.model.specs.Refusals.{Arguments, running, stopGiven, liveSet, moveGiven, seenGiven, roadGiven, Call, Weigh, StartPlan, TwoOpt, Rebuild, Exhaustive, Pruned, Solve, Arrive, Cancel, View, MoveStop, Roadworks, refusal}
 
 -- ---- a run
 
@@ -91,6 +94,7 @@ made Arrive A = arrived (A .job) (liveSet A) (stopGiven A) (lentPlan A)
 made Cancel A = cancelled (stopGiven A) (lentPlan A)
 made View A = lentPlan A
 made MoveStop A = moved (moveGiven A) (lentPlan A)
+made Roadworks A = lentPlan A
 
 -- the live set after an accepted call: an arrival puts its stop in, a cancellation takes it out, and the others leave it
 unfoldable pub newLive : Call → Arguments → ℕ
@@ -105,6 +109,7 @@ newLive Arrive A = including (stopGiven A) (liveSet A)
 newLive Cancel A = excluding (stopGiven A) (liveSet A)
 newLive View A = liveSet A
 newLive MoveStop A = liveSet A
+newLive Roadworks A = liveSet A
 
 -- refused (by a number above 0): as it was lent; accepted: the lent form of the new plan
 abbrev pub leftBy : ℕ → Arguments → Plan → List ℕ
@@ -152,6 +157,10 @@ abbrev pub carried : ℕ → ℤ → Moved
 carried zero z = M.Change z
 carried (suc k) z = M.Refused (suc k)
 
+abbrev pub raised : ℕ → ℕ → Raised
+raised zero x = R.Rise x
+raised (suc k) x = R.Refused (suc k)
+
 -- of weigh, two_opt, rebuild, exhaustive and pruned: the cost of the plan that is left
 unfoldable pub costAnswer : Call → Arguments → Weighed
 costAnswer c A = weighed (refusal c A) (cost (A .job) (made c A))
@@ -175,6 +184,10 @@ viewAnswer A = viewed (refusal View A) (unplacedSet (stopCount (A .job)) (lentPl
 -- of move_stop: the change in cost of the caller's vans and of the missed part
 unfoldable pub moveAnswer : Arguments → Moved
 moveAnswer A = carried (refusal MoveStop A) (costChange (A .job) (A .vans) (moveGiven A) (lentPlan A))
+
+-- of roadworks: the ceiling on the rise in cost
+unfoldable pub roadAnswer : Arguments → Raised
+roadAnswer A = raised (refusal Roadworks A) (ceiling (A .job) (roadGiven A) (lentPlan A))
 
 -- ---- the number and the values for each case of an answer: 0 where it is accepted, and then its values
 
@@ -206,6 +219,11 @@ unfoldable pub saidByViewed : Viewed → Said
 saidByViewed (Seen.Refused k) = record { number = k; values = [] }
 saidByViewed (Seen.Unplaced set) = record { number = 0; values = set ∷ [] }
 
+-- the rise
+unfoldable pub saidByRaised : Raised → Said
+saidByRaised (R.Refused k) = record { number = k; values = [] }
+saidByRaised (R.Rise x) = record { number = 0; values = x ∷ [] }
+
 -- the same with values that have a sign
 pub record SignedSaid : Type 0 where
   pub number : ℕ
@@ -234,6 +252,9 @@ liveSaid c A = saying (refusal c A) (newLive c A ∷ liveCost (A .job) (newLive 
 
 unfoldable pub viewSaid : Arguments → Said
 viewSaid A = saying (refusal View A) (unplacedSet (stopCount (A .job)) (lentPlan A) ∷ [])
+
+unfoldable pub roadSaid : Arguments → Said
+roadSaid A = saying (refusal Roadworks A) (ceiling (A .job) (roadGiven A) (lentPlan A) ∷ [])
 
 abbrev pub signedSaying : ℕ → List ℤ → SignedSaid
 signedSaying zero values = record { number = 0; values = values }
@@ -283,3 +304,8 @@ pub record Moves (A : Arguments) (r : Moved) (left : List ℕ) : Type 0 where
   pub answer : r ≡ moveAnswer A
   pub said : saidByMoved r ≡ moveSaid A
   pub plan : left ≡ planLeft MoveStop A
+
+-- roadworks, which only reads the plan
+pub record Raises (A : Arguments) (r : Raised) : Type 0 where
+  pub answer : r ≡ roadAnswer A
+  pub said : saidByRaised r ≡ roadSaid A

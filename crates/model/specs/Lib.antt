@@ -15,10 +15,12 @@ pub mod Settle
 pub mod Run
 pub mod Live
 pub mod Vans
+pub mod Roads
 pub mod Refusals
 pub mod Calls
 pub mod File
 pub mod Promise
 pub mod Days
 pub mod Studios
+pub mod Rises
 pub mod Sums

@@ -6,11 +6,13 @@ use mathlib.Core.List.{List, [], _∷_}
 use lib.Dec.{eqb, ltb, leb}
 use lib.ListN.{length, getD}
 use Rattle.model.specs.declared.Prices.{Prices}
+use Rattle.model.specs.declared.Road.{Road}
 use Rattle.model.specs.Lists.{member, allBelow, allOnce}
 use Rattle.model.specs.Job.{Job, jobOf, vehicleCount, stopCount}
 use Rattle.model.specs.Plan.{Plan, decode, usedPart, isPlan}
 use Rattle.model.specs.StopSet.{contains, stopsOf}
 use Rattle.model.specs.Vans.{Move, moveTo, badVans, badMove}
+use Rattle.model.specs.Roads.{roadFrom, badRoad, badEntry}
 
 -- What a call is given. Where a call has no such argument the list is empty or the number 0, and the call does not test it.
 pub record Arguments : Type 0 where
@@ -24,14 +26,15 @@ pub record Arguments : Type 0 where
   pub vans : ℕ
   pub moves : List Move
   pub seen : List (List ℕ)
+  pub roads : List Road
 
 -- the arguments of a call that runs no rounds
 abbrev pub asking : Job → List ℕ → List ℕ → Arguments
-asking J plan given = record { job = J; plan = plan; smoothing = 0; limit = 0; draws = []; given = given; live = []; vans = 0; moves = []; seen = [] }
+asking J plan given = record { job = J; plan = plan; smoothing = 0; limit = 0; draws = []; given = given; live = []; vans = 0; moves = []; seen = []; roads = [] }
 
 -- the arguments of a call that has a set of live stops, with the stop that it adds or cancels
 abbrev pub naming : Job → List ℕ → ℕ → ℕ → Arguments
-naming J plan live s = record { job = J; plan = plan; smoothing = 0; limit = 0; draws = []; given = s ∷ []; live = live ∷ []; vans = 0; moves = []; seen = [] }
+naming J plan live s = record { job = J; plan = plan; smoothing = 0; limit = 0; draws = []; given = s ∷ []; live = live ∷ []; vans = 0; moves = []; seen = []; roads = [] }
 
 -- that stop
 abbrev pub stopGiven : Arguments → ℕ
@@ -44,7 +47,7 @@ liveSet A = getD (A .live) 0 0
 -- the arguments of a run
 abbrev pub running : Job → ℕ → ℕ → List ℕ → List ℕ → Arguments
 running J smoothing limit draws plan =
-    record { job = J; plan = plan; smoothing = smoothing; limit = limit; draws = draws; given = []; live = []; vans = 0; moves = []; seen = [] }
+    record { job = J; plan = plan; smoothing = smoothing; limit = limit; draws = draws; given = []; live = []; vans = 0; moves = []; seen = []; roads = [] }
 
 -- what stands for the prices in a call that knows none
 abbrev pub unpriced : Prices
@@ -57,7 +60,7 @@ tableless vs ss = jobOf vs ss 0 [] unpriced
 -- the arguments of a view by a caller who holds a set of vans: the last is the list that it is written to
 abbrev pub looking : Job → List ℕ → ℕ → List ℕ → Arguments
 looking J plan vans seen =
-    record { job = J; plan = plan; smoothing = 0; limit = 0; draws = []; given = []; live = []; vans = vans; moves = []; seen = seen ∷ [] }
+    record { job = J; plan = plan; smoothing = 0; limit = 0; draws = []; given = []; live = []; vans = vans; moves = []; seen = seen ∷ []; roads = [] }
 
 -- that list
 abbrev pub seenGiven : Arguments → List ℕ
@@ -66,11 +69,20 @@ seenGiven A = getD (A .seen) 0 []
 -- the arguments of a move by such a caller
 abbrev pub moving : Job → List ℕ → ℕ → Move → Arguments
 moving J plan vans m =
-    record { job = J; plan = plan; smoothing = 0; limit = 0; draws = []; given = m .stop ∷ []; live = []; vans = vans; moves = m ∷ []; seen = [] }
+    record { job = J; plan = plan; smoothing = 0; limit = 0; draws = []; given = m .stop ∷ []; live = []; vans = vans; moves = m ∷ []; seen = []; roads = [] }
 
 -- that move
 abbrev pub moveGiven : Arguments → Move
 moveGiven A = getD (A .moves) 0 (moveTo 0 0 0)
+
+-- the arguments of roadworks: the last is the road that gets longer
+abbrev pub lengthening : Job → List ℕ → Road → Arguments
+lengthening J plan road =
+    record { job = J; plan = plan; smoothing = 0; limit = 0; draws = []; given = []; live = []; vans = 0; moves = []; seen = []; roads = road ∷ [] }
+
+-- that road
+abbrev pub roadGiven : Arguments → Road
+roadGiven A = getD (A .roads) 0 (roadFrom 0 0 0)
 
 -- the public calls
 pub data Call : Type 0 where
@@ -85,6 +97,7 @@ pub data Call : Type 0 where
   Cancel : Call
   View : Call
   MoveStop : Call
+  Roadworks : Call
 
 -- x is from a to b
 abbrev pub within : ℕ → ℕ → ℕ → Bool
@@ -128,9 +141,27 @@ badDraws ds = not (within 1 1024 (length ds))
 unfoldable pub badLocations : List ℕ → List ℕ → ℕ → Bool
 badLocations vs ss l = not (allBelow l vs && allBelow l ss)
 
+-- 6, of a road, where a call has one
+abbrev pub badRoads : ℕ → List Road → Bool
+badRoads l [] = false
+badRoads l (road ∷ none) = badRoad l road
+
+-- 6 whole: of that road, where a call has one, or of a vehicle or a stop
+abbrev pub badPlaces : Arguments → Bool
+badPlaces A = badRoads (A .job .locations) (A .roads) || badLocations (A .job .vehicles) (A .job .stops) (A .job .locations)
+
 -- 7: distance over 200,000
 unfoldable pub badDistances : List ℕ → Bool
 badDistances ds = not (allBelow 200001 ds)
+
+-- 7, of a road, where a call has one
+abbrev pub badEntries : ℕ → List ℕ → List Road → Bool
+badEntries l ds [] = false
+badEntries l ds (road ∷ none) = badEntry l ds road
+
+-- 7 whole: of that road as it gets, where a call has one, or of the table
+abbrev pub badLegs : Arguments → Bool
+badLegs A = badEntries (A .job .locations) (A .job .distances) (A .roads) || badDistances (A .job .distances)
 
 -- 8: w, q or M over its limit
 unfoldable pub badPrices : Prices → Bool
@@ -210,8 +241,8 @@ tests =
     ∷ record { number = 3; applies = λ A. badTable (A .job .locations) (A .job .distances) }
     ∷ record { number = 4; applies = badLengths }
     ∷ record { number = 5; applies = λ A. badDraws (A .draws) }
-    ∷ record { number = 6; applies = λ A. badLocations (A .job .vehicles) (A .job .stops) (A .job .locations) }
-    ∷ record { number = 7; applies = λ A. badDistances (A .job .distances) }
+    ∷ record { number = 6; applies = badPlaces }
+    ∷ record { number = 7; applies = badLegs }
     ∷ record { number = 8; applies = λ A. badPrices (A .job .prices) }
     ∷ record { number = 9; applies = λ A. badSmoothing (A .smoothing) }
     ∷ record { number = 10; applies = λ A. badLimit (A .limit) }
@@ -236,6 +267,7 @@ asked Arrive = 1 ∷ 2 ∷ 3 ∷ 4 ∷ 6 ∷ 7 ∷ 8 ∷ 11 ∷ 12 ∷ 16 ∷ []
 asked Cancel = 1 ∷ 2 ∷ 3 ∷ 4 ∷ 6 ∷ 7 ∷ 8 ∷ 11 ∷ 12 ∷ 17 ∷ []
 asked View = 1 ∷ 2 ∷ 4 ∷ 11 ∷ 15 ∷ []
 asked MoveStop = 1 ∷ 2 ∷ 3 ∷ 4 ∷ 6 ∷ 7 ∷ 8 ∷ 11 ∷ 12 ∷ 15 ∷ []
+asked Roadworks = 1 ∷ 2 ∷ 3 ∷ 4 ∷ 6 ∷ 7 ∷ 8 ∷ 11 ∷ []
 
 -- the first of some tests that the call makes and that applies; 0 where there is none
 abbrev pub firstOf : Call → Arguments → List Test → ℕ

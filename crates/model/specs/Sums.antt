@@ -1,4 +1,4 @@
--- Specification, 18: the marked rows, as one group.
+-- Specification, 20: the marked rows, as one group.
 use mathlib.Core.Path.{_≡_}
 use Prim.Native.Nat.{ℕ}
 use mathlib.Core.List.{[], _∷_}

@@ -14,6 +14,13 @@ pub struct Region {
     pub to: usize,
 }
 
+// A road that gets longer: its row and its column in the table of distances, and how many metres more it has.
+pub struct Road {
+    pub from: u32,
+    pub to: u32,
+    pub more: u32,
+}
+
 // The two moving averages of a run: of the gain per round, and of the gain per improving round.
 pub struct Averages {
     pub delta: f64,
@@ -70,4 +77,10 @@ pub enum Viewed {
 pub enum Moved {
     Refused(u32),
     Change(i64),
+}
+
+// The answer of roadworks: how much dearer the plan can become.
+pub enum Raised {
+    Refused(u32),
+    Rise(u64),
 }

@@ -12,7 +12,7 @@ use Rattle.model.specs.Job.{Job, vehicleCount, stopCount}
 use Rattle.model.specs.Plan.{Plan, Route, placed}
 use Rattle.model.specs.Cost.{cost}
 use Rattle.model.specs.Rebuild.{better, choose, emptyPlan, allArrangements, exhaustive, reached, pruned}
-use Rattle.model.specs.Refusals.{Arguments, Call, Weigh, StartPlan, TwoOpt, Rebuild, Exhaustive, Pruned, Solve, Arrive, Cancel, View, MoveStop, asked, refusal}
+use Rattle.model.specs.Refusals.{Arguments, Call, Weigh, StartPlan, TwoOpt, Rebuild, Exhaustive, Pruned, Solve, Arrive, Cancel, View, MoveStop, Roadworks, asked, refusal}
 use Rattle.model.specs.Calls.{taskOf, lentPlan, made}
 use Rattle.model.proofs.Order.{better-asym, not-better, both}
 use Rattle.model.proofs.Moves.{twoOpt-le}
@@ -59,7 +59,7 @@ holdsVans c = member 15 (asked c)
 abbrev countsLive : Call → Bool
 countsLive c = member 16 (asked c) || member 17 (asked c)
 
--- the calls that answer a cost, and count every stop of the job
+-- the calls that know the prices, and count every stop of the job
 abbrev pub countsAll : Call → Bool
 countsAll c = member 8 (asked c) && not (holdsVans c || countsLive c)
 
@@ -78,3 +78,4 @@ made-exact Arrive A e p = both p refl
 made-exact Cancel A e p = both p refl
 made-exact View A e p = both p refl
 made-exact MoveStop A e p = both p refl
+made-exact Roadworks A e p = lent-small Roadworks A e refl refl

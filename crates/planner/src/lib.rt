@@ -12,6 +12,7 @@ use model::Weighed;
 use model::Written;
 pub use planner_live::arrive;
 pub use planner_live::cancel;
+pub use planner_roads::roadworks;
 pub use planner_vans::move_stop;
 pub use planner_vans::view;
 

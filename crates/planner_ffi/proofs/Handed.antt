@@ -20,13 +20,15 @@ use Rattle.model.specs.declared.Viewed.{Viewed}
 use Rattle.model.specs.declared.Viewed.the-variants as Seen
 use Rattle.model.specs.declared.Moved.{Moved}
 use Rattle.model.specs.declared.Moved.the-variants as M
+use Rattle.model.specs.declared.Raised.{Raised}
+use Rattle.model.specs.declared.Raised.the-variants as R
 use Rattle.model.specs.Whole.{amount}
 use Rattle.model.specs.Cost.{cost}
 use Rattle.model.specs.Live.{liveCost}
-use Rattle.model.specs.Refusals.{Arguments, Call, StartPlan, Solve, View, MoveStop, refusal}
-use Rattle.model.specs.Calls.{taskOf, totals, made, newLive, weighed, written, solved, changed, viewed, carried, costAnswer, startAnswer, solveAnswer, liveAnswer, viewAnswer, moveAnswer, saidByWeighed, saidByWritten, saidBySolved, saidByChanged, saidByViewed, saidByMoved, saying, signedSaying, costSaid, startSaid, solveSaid, liveSaid, viewSaid, moveSaid, Weighs, Writes, Changes, Views, Moves}
+use Rattle.model.specs.Refusals.{Arguments, Call, StartPlan, Solve, View, MoveStop, Roadworks, refusal}
+use Rattle.model.specs.Calls.{taskOf, totals, made, newLive, weighed, written, solved, changed, viewed, carried, raised, costAnswer, startAnswer, solveAnswer, liveAnswer, viewAnswer, moveAnswer, roadAnswer, saidByWeighed, saidByWritten, saidBySolved, saidByChanged, saidByViewed, saidByMoved, saidByRaised, saying, signedSaying, costSaid, startSaid, solveSaid, liveSaid, viewSaid, moveSaid, roadSaid, Weighs, Writes, Changes, Views, Moves, Raises}
 use Rattle.planner.specs.Kept.{Keeps, Solves}
-use Rattle.planner_ffi.specs.Border.{costLeft, liveLeft, liveCostLeft, unplacedLeft, changeLeft, Results, results, resultsLeft, valuesIn, HandsCost, HandsPlan, HandsChange, HandsView, HandsMove, HandsRun}
+use Rattle.planner_ffi.specs.Border.{costLeft, liveLeft, liveCostLeft, unplacedLeft, changeLeft, riseLeft, Results, results, resultsLeft, valuesIn, HandsCost, HandsPlan, HandsChange, HandsView, HandsMove, HandsRise, HandsRun}
 
 -- ---- a cost
 
@@ -146,6 +148,31 @@ module _ (A : Arguments) (a : Moved) (left : List ℕ) (w : Moves A a left) wher
       let n : r ≡ saidByMoved (moveAnswer A) .number = h ∙ ap (λ (x : Moved). saidByMoved x .number) (w .answer) in
       let l : new ≡ changeLeft (moveAnswer A) old = e ∙ ap (λ (x : Moved). changeLeft x old) (w .answer) in
       record { said = some-move (refusal MoveStop A) _ r old new n l; change = l; plan = w .plan }
+
+-- ---- a rise
+
+module _ (a : Raised) where
+  pub refused-rise : (k old : ℕ) → a ≡ R.Refused k → (k ≡ saidByRaised a .number) × (old ≡ riseLeft a old)
+  unfolding saidByRaised riseLeft
+  refused-rise k old e = (ap (λ (x : Raised). saidByRaised x .number) (sym e), ap (λ (x : Raised). riseLeft x old) (sym e))
+
+  pub accepted-rise : (rise old : ℕ) → a ≡ R.Rise rise → (0 ≡ saidByRaised a .number) × (rise ≡ riseLeft a old)
+  unfolding saidByRaised riseLeft
+  accepted-rise rise old e = (ap (λ (x : Raised). saidByRaised x .number) (sym e), ap (λ (x : Raised). riseLeft x old) (sym e))
+
+some-rise : (x rise r old new : ℕ) → r ≡ saidByRaised (raised x rise) .number → new ≡ riseLeft (raised x rise) old
+    → saying r (new ∷ []) ≡ saying x (rise ∷ [])
+unfolding saidByRaised riseLeft
+some-rise zero rise r old new h e = rw (h, e)
+some-rise (suc x) rise r old new h e = rw h
+
+module _ (A : Arguments) (a : Raised) (w : Raises A a) where
+  pub hands-rise : (r old new : ℕ) → r ≡ saidByRaised a .number → new ≡ riseLeft a old → HandsRise A r old new
+  unfolding roadAnswer roadSaid
+  hands-rise r old new h e =
+      let n : r ≡ saidByRaised (roadAnswer A) .number = h ∙ ap (λ (x : Raised). saidByRaised x .number) (w .answer) in
+      let l : new ≡ riseLeft (roadAnswer A) old = e ∙ ap (λ (x : Raised). riseLeft x old) (w .answer) in
+      record { said = some-rise (refusal Roadworks A) _ r old new n l; rise = l }
 
 -- ---- a written plan
 

@@ -16,9 +16,11 @@ use Rattle.model.specs.declared.Viewed.{Viewed}
 use Rattle.model.specs.declared.Viewed.the-variants as Seen
 use Rattle.model.specs.declared.Moved.{Moved}
 use Rattle.model.specs.declared.Moved.the-variants as M
+use Rattle.model.specs.declared.Raised.{Raised}
+use Rattle.model.specs.declared.Raised.the-variants as R
 use Rattle.model.specs.Whole.{amount}
 use Rattle.model.specs.Refusals.{Arguments, Call, StartPlan, Solve, MoveStop}
-use Rattle.model.specs.Calls.{costAnswer, solveAnswer, liveAnswer, viewAnswer, moveAnswer, planLeft, seenLeft, saying, signedSaying, costSaid, startSaid, solveSaid, liveSaid, viewSaid, moveSaid}
+use Rattle.model.specs.Calls.{costAnswer, solveAnswer, liveAnswer, viewAnswer, moveAnswer, roadAnswer, planLeft, seenLeft, saying, signedSaying, costSaid, startSaid, solveSaid, liveSaid, viewSaid, moveSaid, roadSaid}
 use Rattle.planner.specs.Kept.{Keeps}
 
 -- prices cross the border as three numbers
@@ -50,6 +52,11 @@ unplacedLeft (Seen.Unplaced set) old = set
 unfoldable pub changeLeft : Moved → ℤ → ℤ
 changeLeft (M.Refused k) old = old
 changeLeft (M.Change z) old = z
+
+-- of roadworks: the rise in cost
+unfoldable pub riseLeft : Raised → ℕ → ℕ
+riseLeft (R.Refused k) old = old
+riseLeft (R.Rise x) old = x
 
 -- of solve, one for each number that is lent
 pub record Results : Type 0 where
@@ -99,6 +106,10 @@ pub record HandsMove (A : Arguments) (r : ℕ) (old new : ℤ) (left : List ℕ)
   pub said : signedSaying r (new ∷ []) ≡ moveSaid A
   pub change : new ≡ changeLeft (moveAnswer A) old
   pub plan : left ≡ planLeft MoveStop A
+
+pub record HandsRise (A : Arguments) (r : ℕ) (old new : ℕ) : Type 0 where
+  pub said : saying r (new ∷ []) ≡ roadSaid A
+  pub rise : new ≡ riseLeft (roadAnswer A) old
 
 pub record HandsRun (A : Arguments) (r : ℕ) (old new : Results) (left : List ℕ) : Type 0 where
   pub said : saying r (valuesIn new) ≡ solveSaid A

@@ -3,13 +3,15 @@
 ghost use mathlib.Core.Path.{_≡_};
 ghost use mathlib.Core.List.{[], _∷_};
 ghost use Rattle.model.specs.Job.{jobOf};
-ghost use Rattle.model.specs.Refusals.{asking, naming, looking, moving, tableless, Weigh, TwoOpt, Rebuild, Exhaustive, Pruned, Arrive, Cancel, unpriced, running};
+ghost use Rattle.model.specs.Refusals.{asking, naming, looking, moving, lengthening, tableless, Weigh, TwoOpt, Rebuild, Exhaustive, Pruned, Arrive, Cancel, unpriced, running};
 ghost use Rattle.model.specs.Vans.{moveTo};
-ghost use Rattle.model.specs.Calls.{saidByWeighed, saidBySolved, saidByChanged, saidByViewed, saidByMoved};
-ghost use Rattle.planner_ffi.specs.Border.{priced, costLeft, results, resultsLeft, liveLeft, liveCostLeft, unplacedLeft, changeLeft, HandsCost, HandsPlan, HandsRun, HandsChange, HandsView, HandsMove};
+ghost use Rattle.model.specs.Roads.{roadFrom};
+ghost use Rattle.model.specs.Calls.{saidByWeighed, saidBySolved, saidByChanged, saidByViewed, saidByMoved, saidByRaised};
+ghost use Rattle.planner_ffi.specs.Border.{priced, costLeft, results, resultsLeft, liveLeft, liveCostLeft, unplacedLeft, changeLeft, riseLeft, HandsCost, HandsPlan, HandsRun, HandsChange, HandsView, HandsMove, HandsRise};
 use model::Changed;
 use model::Moved;
 use model::Prices;
+use model::Raised;
 use model::Solved;
 use model::Viewed;
 use model::Weighed;
@@ -68,6 +70,20 @@ fn hand_move(answer: Moved, change: &mut i64) -> u32
         Moved::Refused(number) => number,
         Moved::Change(difference) => {
             *change = difference;
+            0
+        }
+    }
+}
+
+// The number and the rise in cost of an answer.
+fn hand_rise(answer: Raised, rise: &mut u64) -> u32
+    ensures { λ r. ⌜ r ≡ saidByRaised answer .number ⌝ }
+    ensures { λ _. ⌜ now (rise .exit) ≡ riseLeft answer (now (rise .entry)) ⌝ }
+{
+    match answer {
+        Raised::Refused(number) => number,
+        Raised::Rise(most) => {
+            *rise = most;
             0
         }
     }
@@ -422,4 +438,42 @@ pub extern "C" fn planner_move_stop(
         place,
     );
     hand_move(answer, change)
+}
+
+// The most by which a plan's cost can rise where roadworks make the road from one location to another longer by so many metres.
+#[no_mangle]
+pub extern "C" fn planner_roadworks(
+    vehicles: &[u32],
+    stops: &[u32],
+    locations: u32,
+    distances: &[u32],
+    linear: u32,
+    quadratic: u32,
+    missed: u64,
+    plan: &[u32],
+    from: u32,
+    to: u32,
+    more: u32,
+    rise: &mut u64,
+) -> u32
+    ensures { λ r. ⌜ HandsRise (lengthening (jobOf (now (vehicles .entry)) (now (stops .entry)) locations (now (distances .entry)) (priced linear quadratic missed)) (now (plan .entry)) (roadFrom from to more)) r
+        (now (rise .entry)) (now (rise .exit)) ⌝ }
+{
+    let prices = Prices {
+        linear,
+        quadratic,
+        missed,
+    };
+    let answer = planner::roadworks(
+        vehicles,
+        stops,
+        locations,
+        distances,
+        prices,
+        plan,
+        from,
+        to,
+        more,
+    );
+    hand_rise(answer, rise)
 }

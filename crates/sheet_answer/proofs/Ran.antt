@@ -6,12 +6,13 @@ use mathlib.Core.List.{List, [], _∷_}
 use lib.ListN.{length, getD}
 use Rattle.model.specs.Job.{Job}
 use Rattle.model.specs.Run.{Task}
-use Rattle.model.specs.Refusals.{Arguments, asking, Call, Weigh, StartPlan, TwoOpt, Rebuild, Exhaustive, Pruned, Solve, Arrive, Cancel, MoveStop, running, looking, tableless}
-use Rattle.model.specs.Calls.{costAnswer, startAnswer, solveAnswer, liveAnswer, viewAnswer, seenLeft, moveAnswer, planLeft, blank}
+use Rattle.model.specs.Refusals.{Arguments, asking, Call, Weigh, StartPlan, TwoOpt, Rebuild, Exhaustive, Pruned, Solve, Arrive, Cancel, MoveStop, running, looking, tableless, lengthening}
+use Rattle.model.specs.Calls.{costAnswer, startAnswer, solveAnswer, liveAnswer, viewAnswer, seenLeft, moveAnswer, roadAnswer, planLeft, blank}
 use Rattle.file_printing.specs.Printing.{Prints}
-use Rattle.sheet_lines.specs.Printed.{printedWeight, printedStart, printedWeighed, printedSolved, printedChanged, printedViewed, printedMoved}
+use Rattle.sheet_lines.specs.Printed.{printedWeight, printedStart, printedWeighed, printedSolved, printedChanged, printedViewed, printedMoved, printedRaised}
 use Rattle.sheet_calls.specs.Changing.{changing}
 use Rattle.sheet_calls.specs.Moving.{carrying}
+use Rattle.sheet_calls.specs.Lengthening.{roadOf}
 use Rattle.sheet_answer.specs.Sheets.{callOf, priceless, printedCosts, printedChanges, printedCall}
 use Rattle.sheet_answer.specs.Running.{JobPrints}
 
@@ -101,3 +102,8 @@ module _ (old new : List ℕ) (r : ℕ) where
           → Prints old new r (printedMoved (moveAnswer (carrying J plan given)) left) → JobPrints call J given plan old new r
       unfolding printedCall
       ran-move e l p T j = rw (e, j) (subst (λ x. Prints old new r (printedMoved (moveAnswer (carrying J plan given)) x)) l p)
+
+      pub ran-roadworks : call ≡ 12 → Prints old new r (printedRaised (roadAnswer (lengthening J plan (roadOf given))))
+          → JobPrints call J given plan old new r
+      unfolding printedCall
+      ran-roadworks e p T j = rw (e, j) p

@@ -9,12 +9,13 @@ use Rattle.model.specs.Lists.{forEach}
 use Rattle.model.specs.Job.{Job, jobOf}
 use Rattle.model.specs.Run.{Task}
 use Rattle.model.specs.File.{fileOf, Readable, Stands}
-use Rattle.model.specs.Refusals.{Arguments, asking, Call, Weigh, StartPlan, TwoOpt, Rebuild, Exhaustive, Pruned, Solve, Arrive, Cancel, View, MoveStop, unpriced, running, looking, tableless}
-use Rattle.model.specs.Calls.{costAnswer, startAnswer, solveAnswer, liveAnswer, viewAnswer, seenLeft, moveAnswer, planLeft, blank}
+use Rattle.model.specs.Refusals.{Arguments, asking, Call, Weigh, StartPlan, TwoOpt, Rebuild, Exhaustive, Pruned, Solve, Arrive, Cancel, View, MoveStop, Roadworks, unpriced, running, looking, tableless, lengthening}
+use Rattle.model.specs.Calls.{costAnswer, startAnswer, solveAnswer, liveAnswer, viewAnswer, seenLeft, moveAnswer, roadAnswer, planLeft, blank}
 use Rattle.sheet_head.specs.Form.{lastCall, hasGiven, leastGiven, mostGiven, hasPlan, headOf, ListFor, longestPlan}
-use Rattle.sheet_lines.specs.Printed.{printedWeight, printedStart, printedWeighed, printedSolved, printedChanged, printedViewed, printedMoved}
+use Rattle.sheet_lines.specs.Printed.{printedWeight, printedStart, printedWeighed, printedSolved, printedChanged, printedViewed, printedMoved, printedRaised}
 use Rattle.sheet_calls.specs.Changing.{changing}
 use Rattle.sheet_calls.specs.Moving.{carrying}
+use Rattle.sheet_calls.specs.Lengthening.{roadOf}
 
 -- a call's number, the given numbers, the plan that is lent, and a task
 pub record Sheet : Type 0 where
@@ -25,7 +26,7 @@ pub record Sheet : Type 0 where
 
 -- ---- the form of a sheet
 
--- 1 weigh, 2 start_plan, 3 two_opt, 4 rebuild, 5 exhaustive, 6 pruned, 7 solve, 8 arrive, 9 cancel, 10 view, 11 move_stop
+-- 1 weigh, 2 start_plan, 3 two_opt, 4 rebuild, 5 exhaustive, 6 pruned, 7 solve, 8 arrive, 9 cancel, 10 view, 11 move_stop, 12 roadworks
 abbrev pub callOf : ℕ → Call
 callOf n =
     cond (eqb n 1) Weigh
@@ -37,7 +38,8 @@ callOf n =
     (cond (eqb n 7) Solve
     (cond (eqb n 8) Arrive
     (cond (eqb n 9) Cancel
-    (cond (eqb n 10) View MoveStop)))))))))
+    (cond (eqb n 10) View
+    (cond (eqb n 11) MoveStop Roadworks))))))))))
 
 -- the written form of a sheet
 unfoldable pub sheetOf : Sheet → List ℕ
@@ -102,6 +104,7 @@ printedCall View given plan T =
 printedCall MoveStop given plan T =
     let A = carrying (T .job) plan given in
     printedMoved (moveAnswer A) (planLeft MoveStop A)
+printedCall Roadworks given plan T = printedRaised (roadAnswer (lengthening (T .job) plan (roadOf given)))
 
 abbrev pub printedSheet : Sheet → List ℕ
 printedSheet S = printedCall (callOf (S .call)) (S .given) (S .plan) (S .task)

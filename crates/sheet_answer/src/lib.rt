@@ -125,7 +125,7 @@ fn run_vans(
     out: &mut [u8],
 ) -> usize
     requires { ⌜ Runs call (now given) (now plan) (now out) ⌝ }
-    requires { ⌜ (10 ≤ call) × Small (now vehicles) (now stops) ⌝ }
+    requires { ⌜ (10 ≤ call) × (call ≤ 11) × Small (now vehicles) (now stops) ⌝ }
     ensures { λ r. ⌜ JobPrints call (jobOf (now (vehicles .entry)) (now (stops .entry)) locations (now (distances .entry)) prices)
         (now (given .entry)) (now (plan .entry)) (now (out .entry)) (now (out .exit)) r ⌝ }
 {
@@ -136,6 +136,61 @@ fn run_vans(
         return sheet_calls::view(vehicles, stops, plan, vans, &mut seen[..m], out);
     }
     sheet_calls::move_stop(
+        vehicles,
+        stops,
+        locations,
+        distances,
+        prices,
+        plan,
+        given,
+        out,
+    )
+}
+
+// Runs a call whose number is above 7: arrive or cancel, view or move_stop, or roadworks.
+fn run_later(
+    call: u32,
+    vehicles: &[u32],
+    stops: &[u32],
+    locations: u32,
+    distances: &[u32],
+    prices: Prices,
+    given: &[u32],
+    plan: &mut [u32],
+    out: &mut [u8],
+) -> usize
+    requires { ⌜ Runs call (now given) (now plan) (now out) ⌝ }
+    requires { ⌜ (8 ≤ call) × Small (now vehicles) (now stops) ⌝ }
+    ensures { λ r. ⌜ JobPrints call (jobOf (now (vehicles .entry)) (now (stops .entry)) locations (now (distances .entry)) prices)
+        (now (given .entry)) (now (plan .entry)) (now (out .entry)) (now (out .exit)) r ⌝ }
+{
+    if call <= 9 {
+        return run_live(
+            call,
+            vehicles,
+            stops,
+            locations,
+            distances,
+            prices,
+            given,
+            plan,
+            out,
+        );
+    }
+    if call <= 11 {
+        return run_vans(
+            call,
+            vehicles,
+            stops,
+            locations,
+            distances,
+            prices,
+            given,
+            plan,
+            out,
+        );
+    }
+    sheet_calls::roadworks(
         vehicles,
         stops,
         locations,
@@ -187,21 +242,8 @@ fn run_call(
             out,
         );
     }
-    if 9 < call {
-        return run_vans(
-            call,
-            vehicles,
-            stops,
-            locations,
-            distances,
-            prices,
-            given,
-            plan,
-            out,
-        );
-    }
     if 7 < call {
-        return run_live(
+        return run_later(
             call,
             vehicles,
             stops,

@@ -1,2 +1,3 @@
 pub mod Changing
 pub mod Moving
+pub mod Lengthening

@@ -3,12 +3,13 @@ ghost use mathlib.Core.Path.{_≡_};
 ghost use mathlib.Core.List.{[], _∷_};
 ghost use lib.ListN.{length};
 ghost use Rattle.model.specs.Job.{jobOf};
-ghost use Rattle.model.specs.Refusals.{asking, Weigh, StartPlan, TwoOpt, Rebuild, Exhaustive, Pruned, Solve, Arrive, Cancel, MoveStop, unpriced, running, looking, tableless};
-ghost use Rattle.model.specs.Calls.{costAnswer, startAnswer, planLeft, solveAnswer, liveAnswer, viewAnswer, seenLeft, moveAnswer};
+ghost use Rattle.model.specs.Refusals.{asking, Weigh, StartPlan, TwoOpt, Rebuild, Exhaustive, Pruned, Solve, Arrive, Cancel, MoveStop, unpriced, running, looking, tableless, lengthening};
+ghost use Rattle.model.specs.Calls.{costAnswer, startAnswer, planLeft, solveAnswer, liveAnswer, viewAnswer, seenLeft, moveAnswer, roadAnswer};
 ghost use Rattle.file_printing.specs.Printing.{Prints};
-ghost use Rattle.sheet_lines.specs.Printed.{printedWeight, printedStart, Printable, printedWeighed, printedSolved, printedChanged, printedViewed, printedMoved};
+ghost use Rattle.sheet_lines.specs.Printed.{printedWeight, printedStart, Printable, printedWeighed, printedSolved, printedChanged, printedViewed, printedMoved, printedRaised};
 ghost use Rattle.sheet_calls.specs.Changing.{liveOf, changing};
 ghost use Rattle.sheet_calls.specs.Moving.{carrying};
+ghost use Rattle.sheet_calls.specs.Lengthening.{roadOf};
 use model::Prices;
 use model::Solved;
 use model::Weighed;
@@ -301,4 +302,37 @@ pub fn move_stop(
         place,
     );
     sheet_lines::print_moved(answer, plan, out)
+}
+
+// Asks how much dearer a plan can become where a road gets longer, and prints that.
+pub fn roadworks(
+    vehicles: &[u32],
+    stops: &[u32],
+    locations: u32,
+    distances: &[u32],
+    prices: Prices,
+    plan: &[u32],
+    given: &[u32],
+    out: &mut [u8],
+) -> usize
+    requires { ⌜ Printable (now plan) (now out) ⌝ }
+    requires { ⌜ length (now given) ≡ 3 ⌝ }
+    ensures { λ r. ⌜ Prints (now (out .entry)) (now (out .exit)) r
+        (printedRaised (roadAnswer (lengthening (jobOf (now (vehicles .entry)) (now (stops .entry)) locations (now (distances .entry)) prices) (now (plan .entry)) (roadOf (now (given .entry)))))) ⌝ }
+{
+    let from = given[0];
+    let to = given[1];
+    let more = given[2];
+    let answer = planner::roadworks(
+        vehicles,
+        stops,
+        locations,
+        distances,
+        prices,
+        plan,
+        from,
+        to,
+        more,
+    );
+    sheet_lines::print_raised(answer, out)
 }

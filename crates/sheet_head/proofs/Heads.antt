@@ -50,7 +50,7 @@ module _ (bytes : List ℕ) (at : ℕ) where
 pub has-early : (call : ℕ) → (call ≡ 1 → ⊥) → (call ≡ 3 → ⊥) → (call ≡ 4 → ⊥) → call < 8 → false ≡ hasPlan call
 has-early call f g h l = rw (ne-eqb call 1 f, ne-eqb call 3 g, ne-eqb call 4 h, lt-leb 8 call l)
 
-pub has-late : (call : ℕ) → (call ≡ 1 → ⊥) → (call ≡ 3 → ⊥) → (call ≡ 4 → ⊥) → 8 ≤ call → leb call 11 ≡ hasPlan call
+pub has-late : (call : ℕ) → (call ≡ 1 → ⊥) → (call ≡ 3 → ⊥) → (call ≡ 4 → ⊥) → 8 ≤ call → leb call 12 ≡ hasPlan call
 has-late call f g h l = rw (ne-eqb call 1 f, ne-eqb call 3 g, ne-eqb call 4 h, le-leb 8 call l)
 
 module _ (call : ℕ) (bytes : List ℕ) (at : ℕ) where

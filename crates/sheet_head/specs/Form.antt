@@ -1,5 +1,5 @@
 -- The form of the lines before a sheet's job file. The calls' numbers are 1 weigh, 2 start_plan, 3 two_opt, 4 rebuild, 5 exhaustive, 6 pruned, 7 solve,
--- 8 arrive, 9 cancel, 10 view, 11 move_stop.
+-- 8 arrive, 9 cancel, 10 view, 11 move_stop, 12 roadworks.
 use mathlib.Core.Path.{_≡_}
 use Prim.Native.Nat.{ℕ, _≤_}
 use mathlib.Core.Bool.{Bool, true, false, _||_}
@@ -11,17 +11,17 @@ use Rattle.model.specs.Refusals.{within}
 
 -- the last call's number
 abbrev pub lastCall : ℕ
-lastCall = 11
+lastCall = 12
 
 -- how many numbers a call is given, by its number from 0 on: at least and at most so many
 abbrev pub leastNumbers : List ℕ
-leastNumbers = 0 ∷ 0 ∷ 0 ∷ 2 ∷ 0 ∷ 0 ∷ 0 ∷ 0 ∷ 3 ∷ 3 ∷ 1 ∷ 4 ∷ []
+leastNumbers = 0 ∷ 0 ∷ 0 ∷ 2 ∷ 0 ∷ 0 ∷ 0 ∷ 0 ∷ 3 ∷ 3 ∷ 1 ∷ 4 ∷ 3 ∷ []
 
 abbrev pub mostNumbers : List ℕ
-mostNumbers = 0 ∷ 0 ∷ 0 ∷ 2 ∷ 8 ∷ 0 ∷ 0 ∷ 0 ∷ 3 ∷ 3 ∷ 1 ∷ 4 ∷ []
+mostNumbers = 0 ∷ 0 ∷ 0 ∷ 2 ∷ 8 ∷ 0 ∷ 0 ∷ 0 ∷ 3 ∷ 3 ∷ 1 ∷ 4 ∷ 3 ∷ []
 
 -- two stops for 3; none to eight stops for 4; for 8 and 9 a stop, and the low and the high 32 bits of the set of live stops; for 10 a set of vans; for 11 such a
--- set, a stop, a van and a place
+-- set, a stop, a van and a place; for 12 two locations and how many metres more
 abbrev pub leastGiven : ℕ → ℕ
 leastGiven n = getD leastNumbers n 0
 
@@ -36,9 +36,9 @@ hasGiven n = ltb 0 (mostGiven n)
 abbrev pub longestPlan : ℕ
 longestPlan = 96
 
--- for 1, 3, 4 and 8 to 11 a line with the plan's numbers
+-- for 1, 3, 4 and 8 to 12 a line with the plan's numbers
 abbrev pub hasPlan : ℕ → Bool
-hasPlan n = eqb n 1 || (eqb n 3 || (eqb n 4 || within 8 11 n))
+hasPlan n = eqb n 1 || (eqb n 3 || (eqb n 4 || within 8 12 n))
 
 -- a line that is there, or is not
 abbrev pub lineIf : Bool → List ℕ → List ℕ

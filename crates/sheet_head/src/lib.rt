@@ -6,9 +6,9 @@ ghost use Rattle.sheet_head.specs.Form.{lastCall, hasGiven, leastGiven, 
 ghost use Rattle.sheet_head.specs.Reading.{CountAt, ListAt, ListIf, Fits, Laid, CallAt, Lent, HeadAt};
 
 // How many numbers a call is given, by its number from 0 on: at least and at most so many.
-const LEAST_GIVEN: [usize; 12] = [0, 0, 0, 2, 0, 0, 0, 0, 3, 3, 1, 4];
+const LEAST_GIVEN: [usize; 13] = [0, 0, 0, 2, 0, 0, 0, 0, 3, 3, 1, 4, 3];
 
-const MOST_GIVEN: [usize; 12] = [0, 0, 0, 2, 8, 0, 0, 0, 3, 3, 1, 4];
+const MOST_GIVEN: [usize; 13] = [0, 0, 0, 2, 8, 0, 0, 0, 3, 3, 1, 4, 3];
 
 // A line of numbers that was read: how many there are, and the position after it.
 pub struct Listed {
@@ -96,7 +96,7 @@ pub fn has_plan(call: u32) -> bool
     if call < 8 {
         return false;
     }
-    call <= 11
+    call <= 12
 }
 
 // The numbers of a call's plan, where it has a line with them.
@@ -120,7 +120,7 @@ fn fill_list(bytes: &[u8], at: usize, count: usize, list: &mut [u32])
     file_lines::fill_lines(bytes, at, 1, count, list);
 }
 
-// The call's number in the line at a position, 0 where none of the eleven stands there.
+// The call's number in the line at a position, 0 where none of the twelve stands there.
 fn read_call(bytes: &[u8], at: usize) -> u32
     ensures { λ r. ⌜ CallAt (now (bytes .entry)) at r ⌝ }
 {
@@ -128,7 +128,7 @@ fn read_call(bytes: &[u8], at: usize) -> u32
         return 0;
     }
     let call = file_columns::number_at(bytes, at);
-    if 11 < call {
+    if 12 < call {
         return 0;
     }
     call

@@ -13,12 +13,16 @@ use Rattle.model.specs.declared.Changed.{Changed}
 use Rattle.model.specs.declared.Viewed.{Viewed}
 use Rattle.model.specs.declared.Moved.{Moved}
 use Rattle.model.specs.declared.Moved.the-variants as M
+use Rattle.model.specs.declared.Raised.{Raised}
 use Rattle.file_printing.specs.Printing.{Prints}
-use Rattle.sheet_lines.specs.Printed.{printedWeight, printedStart, printedWeighed, printedSolved, printedChanged, printedViewed, printedMoved}
+use Rattle.sheet_lines.specs.Printed.{printedWeight, printedStart, printedWeighed, printedSolved, printedChanged, printedViewed, printedMoved, printedRaised}
 
 module _ (old new : List ℕ) (r : ℕ) where
   pub shown-weight : (a b : Weighed) → a ≡ b → Prints old new r (printedWeight a) → Prints old new r (printedWeight b)
   shown-weight a b e = subst (λ (x : Weighed). Prints old new r (printedWeight x)) e
+
+  pub shown-raised : (a b : Raised) → a ≡ b → Prints old new r (printedRaised a) → Prints old new r (printedRaised b)
+  shown-raised a b e = subst (λ (x : Raised). Prints old new r (printedRaised x)) e
 
   module _ (plan : List ℕ) where
     pub shown-start : (a b : Written) → a ≡ b → Prints old new r (printedStart a plan) → Prints old new r (printedStart b plan)

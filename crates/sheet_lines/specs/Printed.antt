@@ -17,10 +17,12 @@ use Rattle.model.specs.declared.Viewed.{Viewed}
 use Rattle.model.specs.declared.Viewed.the-variants as Seen
 use Rattle.model.specs.declared.Moved.{Moved}
 use Rattle.model.specs.declared.Moved.the-variants as M
+use Rattle.model.specs.declared.Raised.{Raised}
+use Rattle.model.specs.declared.Raised.the-variants as R
 use Rattle.model.specs.Whole.{IsWhole}
 use Rattle.model.specs.File.{line, printedRefusal}
 use Rattle.file_printing.specs.Printing.{printedTotals}
-use Rattle.sheet_printing.specs.Costs.{printedCost, printedStanding, printedSet, printedChange}
+use Rattle.sheet_printing.specs.Costs.{printedCost, printedStanding, printedNumber, printedChange}
 use Rattle.sheet_head.specs.Form.{longestPlan}
 
 -- of weigh: the cost
@@ -51,12 +53,17 @@ printedChanged (C.Stands t) plan = printedStanding t ++ line 14 plan
 -- of view: the set of unplaced stops, and what is seen of the plan
 abbrev pub printedViewed : Viewed → List ℕ → List ℕ
 printedViewed (Seen.Refused number) seen = printedRefusal number
-printedViewed (Seen.Unplaced set) seen = printedSet set ++ line 14 seen
+printedViewed (Seen.Unplaced set) seen = printedNumber set ++ line 14 seen
 
 -- of move_stop: the change in cost and the plan
 abbrev pub printedMoved : Moved → List ℕ → List ℕ
 printedMoved (M.Refused number) plan = printedRefusal number
 printedMoved (M.Change z) plan = printedChange z ++ line 14 plan
+
+-- of roadworks: the rise in cost
+abbrev pub printedRaised : Raised → List ℕ
+printedRaised (R.Refused number) = printedRefusal number
+printedRaised (R.Rise x) = printedNumber x
 
 -- the most that is printed for a sheet: the numbers of a run and a plan
 abbrev pub mostForSheet : ℕ

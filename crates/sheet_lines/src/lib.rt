@@ -1,8 +1,11 @@
 // What is printed for the answer of a single call.
+ghost use Prim.Native.Nat.{_≤_};
+ghost use lib.ListN.{length};
 ghost use Rattle.file_printing.specs.Printing.{Prints};
-ghost use Rattle.sheet_lines.specs.Printed.{printedWeighed, printedChanged, printedViewed, printedMoved, Printable, Exactly, StandsExactly};
+ghost use Rattle.sheet_lines.specs.Printed.{printedWeighed, printedChanged, printedViewed, printedMoved, printedRaised, Printable, Exactly, StandsExactly};
 use model::Changed;
 use model::Moved;
+use model::Raised;
 use model::Viewed;
 use model::Weighed;
 
@@ -49,5 +52,16 @@ pub fn print_moved(answer: Moved, plan: &[u32], out: &mut [u8]) -> usize
     match answer {
         Moved::Refused(number) => file_printing::print_refusal(number, out),
         Moved::Change(z) => sheet_printing::print_change_and_list(z, plan, out),
+    }
+}
+
+// A rise in cost, or a refusal.
+pub fn print_raised(answer: Raised, out: &mut [u8]) -> usize
+    requires { ⌜ 21 ≤ length (now out) ⌝ }
+    ensures { λ r. ⌜ Prints (now (out .entry)) (now (out .exit)) r (printedRaised answer) ⌝ }
+{
+    match answer {
+        Raised::Refused(number) => file_printing::print_refusal(number, out),
+        Raised::Rise(x) => sheet_printing::print_number(x, out),
     }
 }

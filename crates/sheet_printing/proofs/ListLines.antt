@@ -1,4 +1,4 @@
--- Lines of numbers in 14 columns, the line of a cost, the line of live stops and a cost, the lines of a set of stops and of a change.
+-- Lines of numbers in 14 columns, the line of a cost, the line of live stops and a cost, the lines of a number of 64 bits and of a change.
 use mathlib.Core.Path.{_≡_, sym, _∙_, ap}
 use mathlib.Core.List.{List, [], _∷_, _++_, append-nil, append-assoc}
 use Prim.Native.Nat.{ℕ, _+_, _*_, _^_, _≤_, _<_}
@@ -21,7 +21,7 @@ use Rattle.file_columns.specs.Put.{written}
 use Rattle.file_columns.proofs.Puts.{written-nil}
 use Rattle.file_columns.proofs.Signs.{signed-length}
 use Rattle.file_printing.specs.Printing.{Prints}
-use Rattle.sheet_printing.specs.Costs.{printedCost, printedStanding, printedSet, printedChange}
+use Rattle.sheet_printing.specs.Costs.{printedCost, printedStanding, printedNumber, printedChange}
 use Rattle.file_printing.proofs.Pieces.{after, line-feed, amount-small, refusal-printed}
 
 module _ (old : List ℕ) (at : ℕ) (list : List ℕ) (f : Fitting list) (room : at + (14 * length list + 1) ≤ length old) where
@@ -57,13 +57,13 @@ pub cost-length : (c : Float) → length (printedCost c) ≡ 21
 unfolding printedCost line fields
 cost-length c = simp (length-append, append-nil, columns-length 19 (amount c) (amount-small c))
 
-pub set-line : (n : ℕ) (old a : List ℕ) → n < 10 ^ 20 → 21 ≤ length old → a ≡ written old 0 (columns 20 n) → set a 20 lineFeed ≡ written old 0 (printedSet n)
-unfolding printedSet printedRefusal
-set-line n old a small room e = refusal-printed n old a small room e .same
+pub number-line : (n : ℕ) (old a : List ℕ) → n < 10 ^ 20 → 21 ≤ length old → a ≡ written old 0 (columns 20 n) → set a 20 lineFeed ≡ written old 0 (printedNumber n)
+unfolding printedNumber printedRefusal
+number-line n old a small room e = refusal-printed n old a small room e .same
 
-pub set-length : (n : ℕ) → n < 10 ^ 20 → length (printedSet n) ≡ 21
-unfolding printedSet line fields
-set-length n small = simp (length-append, append-nil, columns-length 19 n small)
+pub number-length : (n : ℕ) → n < 10 ^ 20 → length (printedNumber n) ≡ 21
+unfolding printedNumber line fields
+number-length n small = simp (length-append, append-nil, columns-length 19 n small)
 
 -- a change that is read back from its bits is the same
 pub change-line : (z : ℤ) (old a : List ℕ) → SFits w64 z → 21 ≤ length old → a ≡ written old 0 (signedColumns 20 (toZ w64 (ofZ w64 z)))

@@ -1,4 +1,4 @@
--- What is printed of a cost, of what stands after a change, of a set of stops, and of a change in cost.
+-- What is printed of a cost, of what stands after a change, of a number of 64 bits, and of a change in cost.
 use Prim.Native.Nat.{ℕ}
 use mathlib.Core.List.{List, [], _∷_, _++_}
 use lib.IntN.{ℤ}
@@ -15,9 +15,9 @@ printedCost c = line 20 (amount c ∷ [])
 unfoldable pub printedStanding : Standing → List ℕ
 printedStanding t = line 20 (t .live ∷ amount (t .cost) ∷ [])
 
--- the line of a set of stops
-unfoldable pub printedSet : ℕ → List ℕ
-printedSet set = line 20 (set ∷ [])
+-- the line of a number of 64 bits: a set of stops, or a rise in cost
+unfoldable pub printedNumber : ℕ → List ℕ
+printedNumber n = line 20 (n ∷ [])
 
 -- the line of a change in cost, with its sign
 unfoldable pub printedChange : ℤ → List ℕ

@@ -1,5 +1,5 @@
 // The lines that the program prints for the answer of a single call: a cost, a plan, the numbers of a run, live stops and a cost, a set of
-// stops, a change in cost.
+// stops, a change in cost, a rise in cost.
 use model::Standing;
 use model::Totals;
 ghost use mathlib.Core.Path.{_≡_};
@@ -10,7 +10,7 @@ ghost use Rattle.model.specs.File.{line};
 ghost use Rattle.model.specs.Whole.{IsWhole};
 ghost use Rattle.file_columns.specs.Put.{written};
 ghost use Rattle.file_printing.specs.Printing.{printedTotals, Priced, Prints};
-ghost use Rattle.sheet_printing.specs.Costs.{printedCost, printedStanding, printedSet, printedChange};
+ghost use Rattle.sheet_printing.specs.Costs.{printedCost, printedStanding, printedNumber, printedChange};
 
 // A line of numbers in 14 columns each, from a position on.
 fn put_list(out: &mut [u8], at: usize, list: &[u32])
@@ -46,12 +46,12 @@ fn put_standing(out: &mut [u8], t: Standing)
     out[40] = b'\n';
 }
 
-// The line of a set of stops.
-fn put_set(out: &mut [u8], set: u64)
+// The line of a number of 64 bits: a set of stops, or a rise in cost.
+fn put_number_line(out: &mut [u8], number: u64)
     requires { ⌜ 21 ≤ length (now out) ⌝ }
-    ensures { λ _. ⌜ now (out .exit) ≡ written (now (out .entry)) 0 (printedSet set) ⌝ }
+    ensures { λ _. ⌜ now (out .exit) ≡ written (now (out .entry)) 0 (printedNumber number) ⌝ }
 {
-    file_columns::put_number(out, 0, 20, set);
+    file_columns::put_number(out, 0, 20, number);
     out[20] = b'\n';
 }
 
@@ -81,6 +81,15 @@ pub fn print_cost(c: f64, out: &mut [u8]) -> usize
     ensures { λ r. ⌜ Prints (now (out .entry)) (now (out .exit)) r (printedCost c) ⌝ }
 {
     put_cost(out, c);
+    21
+}
+
+// For a rise in cost alone.
+pub fn print_number(number: u64, out: &mut [u8]) -> usize
+    requires { ⌜ 21 ≤ length (now out) ⌝ }
+    ensures { λ r. ⌜ Prints (now (out .entry)) (now (out .exit)) r (printedNumber number) ⌝ }
+{
+    put_number_line(out, number);
     21
 }
 
@@ -128,9 +137,9 @@ pub fn print_standing_and_list(t: Standing, list: &[u32], out: &mut [u8]) -> usi
 // For a set of stops and a plan.
 pub fn print_set_and_list(set: u64, list: &[u32], out: &mut [u8]) -> usize
     requires { ⌜ 14 * length (now list) + 22 ≤ length (now out) ⌝ }
-    ensures { λ r. ⌜ Prints (now (out .entry)) (now (out .exit)) r (printedSet set ++ line 14 (now (list .entry))) ⌝ }
+    ensures { λ r. ⌜ Prints (now (out .entry)) (now (out .exit)) r (printedNumber set ++ line 14 (now (list .entry))) ⌝ }
 {
-    put_set(out, set);
+    put_number_line(out, set);
     put_list_after(out, list)
 }
 

@@ -154,6 +154,20 @@ static void show_move(uint32_t place)
     show_plan();
 }
 
+/* roadworks on the road from location 2 to location 1, of 1 metre, which the plan uses where stop 1 comes before stop 0 */
+static void show_roadworks(uint32_t more)
+{
+    uint64_t rise = 7;
+    uint32_t refused = planner_roadworks(LISTS, PRICES, plan, COUNT(plan), 2, 1, more, &rise);
+    if (refused && rise != 7)
+        abort();
+    if (refused)
+        printf("roadworks refused %" PRIu32, refused);
+    else
+        printf("roadworks rise %" PRIu64, rise);
+    show_plan();
+}
+
 int main(void)
 {
     const uint32_t both[] = {0, 1};
@@ -181,5 +195,7 @@ int main(void)
     show_view(0); /* without a van: no route is seen */
     show_view(2); /* there is no van 1: refused */
     show_move(0); /* from no route */
+    show_roadworks(5);
+    show_roadworks(200000); /* 1 metre too long: refused */
     return 0;
 }

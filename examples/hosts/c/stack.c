@@ -56,6 +56,15 @@ static void move_stop(void)
     refused = planner_move_stop(LISTS(fleet, STOPS), PRICES, plan, fleet + STOPS, all(), plan[fleet + STOPS - 1], 0, 0, &change);
 }
 
+/* on the road between the last two stops of the last vehicle's route, which becomes as long as a road may be */
+static void roadworks(void)
+{
+    uint64_t rise;
+    uint32_t from = stops[plan[fleet + STOPS - 2]], to = stops[plan[fleet + STOPS - 1]];
+    uint32_t more = 200000 - distances[from * LOCATIONS + to];
+    refused = planner_roadworks(LISTS(fleet, STOPS), PRICES, plan, fleet + STOPS, from, to, more, &rise);
+}
+
 static void rebuild(void)
 {
     uint32_t given[] = {1, 0};
@@ -126,5 +135,6 @@ int main(void)
     report("cancel", cancel);
     report("view", view);
     report("move_stop", move_stop);
+    report("roadworks", roadworks);
     return 0;
 }

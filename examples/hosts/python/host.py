@@ -73,6 +73,11 @@ def show_move(place, plan):
     return show("move_stop", answer, plan)
 
 
+def show_roadworks(more, plan):
+    """Roadworks on the road from location 2 to location 1, of 1 metre, which the plan uses where stop 1 comes before stop 0."""
+    show("roadworks", lambda: (f" rise {planner.roadworks(JOB, plan, road=(2, 1), more=more)}", plan), plan)
+
+
 def show_start_plan(plan):
     return show("start_plan", lambda: ("", planner.start_plan(JOB)), plan)
 
@@ -101,4 +106,6 @@ plan = show_move(2, plan)  # beyond the end: refused
 live, plan = show_change("cancel", planner.cancel, live, plan)
 show_view(0, plan)  # without a van: no route is seen
 show_view(2, plan)  # there is no van 1: refused
-show_move(0, plan)  # from no route
+plan = show_move(0, plan)  # from no route
+show_roadworks(5, plan)
+show_roadworks(200000, plan)  # 1 metre too long: refused

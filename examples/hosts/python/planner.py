@@ -18,6 +18,8 @@
     Moved(change=14, plan=[2, 0, 1])
     >>> planner.view(job, run.plan, vans=1)
     View(unplaced=0, plan=[2, 1, 0])
+    >>> planner.roadworks(job, run.plan, road=(2, 1), more=5)  # metres more from location 2 to location 1
+    5
 
 A plan is a list of a number for each vehicle and each stop: the lengths of the routes, then the stops of route 0, route 1 and
 so on, then UNUSED in each place that is left. A set of stops is one number, stop 0 its lowest bit, and a set of vans likewise. Costs
@@ -37,7 +39,8 @@ from pathlib import Path
 
 __all__ = [
     "UNUSED", "Job", "Moved", "Refused", "Run", "Standing", "View", "Weighed",
-    "arrive", "cancel", "exhaustive", "move_stop", "pruned", "rebuild", "routes", "solve", "start_plan", "two_opt", "view", "weigh",
+    "arrive", "cancel", "exhaustive", "move_stop", "pruned", "rebuild", "roadworks", "routes", "solve", "start_plan", "two_opt",
+    "view", "weigh",
 ]  # fmt: skip
 
 ROOT = Path(__file__).resolve().parents[3]
@@ -196,6 +199,16 @@ def move_stop(job, plan, vans, stop, van, place):
     return Moved(change.value, plan.tolist())
 
 
+def roadworks(job, plan, road, more):
+    """The most by which the cost of a plan can rise where roadworks lengthen a road by `more` metres. A road is an entry of the table:
+    the location that it leads from and the one that it leads to, as a pair. With w and q the prices of a metre and of a squared metre
+    it is more * S * (w + q * (2 * T + more * S)): S counts the uses of the road by the routes, of which an empty one has the one leg
+    from start to end, and T is the length of all routes together. The true rise is never above that."""
+    rise = ctypes.c_uint64()
+    _call("planner_roadworks", *_job(job), *_prices(job), *_list(plan), *road, more, rise)
+    return rise.value
+
+
 def routes(job, plan):
     """The stops of each vehicle in order, of a plan that a call answered or took."""
     count = len(job.vehicles)
@@ -205,7 +218,8 @@ def routes(job, plan):
 
 _U32, _U64, _SIZE = ctypes.c_uint32, ctypes.c_uint64, ctypes.c_size_t
 _NUMBERS, _COST = ctypes.POINTER(ctypes.c_uint32), ctypes.POINTER(ctypes.c_double)
-_SET, _CHANGE = ctypes.POINTER(ctypes.c_uint64), ctypes.POINTER(ctypes.c_int64)
+_SET = _RISE = ctypes.POINTER(ctypes.c_uint64)
+_CHANGE = ctypes.POINTER(ctypes.c_int64)
 _LIST = [_NUMBERS, _SIZE]
 _JOB = [*_LIST, *_LIST, _U32, *_LIST]
 _PRICES = [_U32, _U32, _U64]
@@ -222,6 +236,7 @@ DECLARATIONS = {
     "planner_cancel": [*_JOB, *_PRICES, *_LIST, _U64, _U32, _SET, _COST],
     "planner_view": [*_LIST, *_LIST, *_LIST, _U32, *_LIST, _SET],
     "planner_move_stop": [*_JOB, *_PRICES, *_LIST, _U32, _U32, _U32, _U32, _CHANGE],
+    "planner_roadworks": [*_JOB, *_PRICES, *_LIST, _U32, _U32, _U32, _RISE],
 }
 """The parameters of each function, which `tools/declarations` holds to include/planner.h. Each returns a uint32_t."""
 

@@ -241,7 +241,7 @@ fn with_routes(
 fn without_stop(sheet: &Sheet, stop: usize) -> Option<Sheet> {
     let given_stops = match sheet.call {
         Call::Arrive | Call::Cancel => &sheet.given[..1],
-        Call::View => &[],
+        Call::View | Call::Roadworks => &[],
         Call::MoveStop => &sheet.given[1..2],
         _ => &sheet.given,
     };
@@ -271,6 +271,10 @@ fn without_stop(sheet: &Sheet, stop: usize) -> Option<Sheet> {
             .zip(given)
             .for_each(|(old, new)| *old = new);
         given = same;
+    }
+
+    if sheet.call.has_road() {
+        given = sheet.given.clone();
     }
 
     job.stops.remove(stop);
@@ -359,7 +363,8 @@ fn without_location(sheet: &Sheet, location: usize) -> Option<Sheet> {
     }
 
     let mut new = sheet.clone();
-    let job = &mut new.job;
+    let Sheet { given, job, .. } = &mut new;
+    let road = if sheet.call.has_road() { 2 } else { 0 };
 
     job.distances.remove(location);
 
@@ -367,7 +372,13 @@ fn without_location(sheet: &Sheet, location: usize) -> Option<Sheet> {
         row.remove(location);
     }
 
-    for place in job.vehicles.iter_mut().flatten().chain(&mut job.stops) {
+    for place in job
+        .vehicles
+        .iter_mut()
+        .flatten()
+        .chain(&mut job.stops)
+        .chain(&mut given[..road])
+    {
         if *place as usize == location {
             *place = 0;
         } else if *place as usize > location {

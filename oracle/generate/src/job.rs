@@ -146,12 +146,32 @@ pub fn vans_job(random: &mut Random) -> Job {
         _ => any_job(random),
     };
 
-    // Few have no price at all for driving.
+    put_price(random, &mut job);
+    job
+}
+
+/// A job for roadworks. Many have few locations, so that a plan has one leg several times.
+pub fn road_job(random: &mut Random) -> Job {
+    if !random.once_in(3) {
+        return vans_job(random);
+    }
+
+    let sizes = Sizes {
+        vehicles: random.within(1..=4),
+        stops: random.within(0..=20),
+        locations: random.within(1..=3),
+    };
+    let mut job = sized_job(random, sizes);
+
+    put_price(random, &mut job);
+    job
+}
+
+/// Few jobs have no price at all for driving.
+fn put_price(random: &mut Random, job: &mut Job) {
     if job.linear == 0 && job.quadratic == 0 && !random.once_in(4) {
         job.linear = 1;
     }
-
-    job
 }
 
 pub fn job(random: &mut Random, sizes: Sizes) -> Job {

@@ -7,17 +7,20 @@ mod random;
 mod recorded;
 mod recorded_live;
 mod recorded_refusals;
+mod recorded_roads;
 mod recorded_vans;
 mod refused;
+mod roads;
 mod sheet;
 mod vans;
 
 pub use crate::{
-    job::{long_job, small_job, sufficient, Sizes},
+    job::{long_job, small_job, sufficient, Sizes, MAX_DISTANCE},
     live::{day, Day, Event},
     random::Random,
     recorded::recorded_sheets,
     refused::refuse,
+    roads::{road, uses},
     sheet::{accepted_sheet, plan, sheet},
     vans::{pair, Move, Pair},
 };
@@ -36,6 +39,8 @@ pub enum Kind {
     Refused,
     /// Such sheets of views and moves alone.
     RefusedVans,
+    /// Such sheets of roadworks alone.
+    RefusedRoads,
     /// A sheet with its bytes damaged, with none to two others before it and one or none after it.
     DamagedCalls,
     /// Job files for the shuttle program.
@@ -47,7 +52,7 @@ pub enum Kind {
 }
 
 impl Kind {
-    const NAMES: [(&'static str, Self); 18] = [
+    const NAMES: [(&'static str, Self); 20] = [
         ("weigh", Self::Call(Call::Weigh)),
         ("start_plan", Self::Call(Call::StartPlan)),
         ("two_opt", Self::Call(Call::TwoOpt)),
@@ -59,9 +64,11 @@ impl Kind {
         ("cancel", Self::Call(Call::Cancel)),
         ("view", Self::Call(Call::View)),
         ("move_stop", Self::Call(Call::MoveStop)),
+        ("roadworks", Self::Call(Call::Roadworks)),
         ("calls", Self::Calls),
         ("refused", Self::Refused),
         ("refused-vans", Self::RefusedVans),
+        ("refused-roads", Self::RefusedRoads),
         ("damaged-calls", Self::DamagedCalls),
         ("jobs", Self::Jobs),
         ("damaged-jobs", Self::DamagedJobs),
@@ -125,6 +132,7 @@ pub fn text(seed: u64, index: u64, kind: Kind) -> Vec<u8> {
 
             write_sheet(&refused::refused_sheet(random, &calls)).into_bytes()
         }
+        Kind::RefusedRoads => write_sheet(&refused::refused_road_sheet(random)).into_bytes(),
         Kind::DamagedCalls => {
             let mut sheets = |count| {
                 (0..random.below(count))

@@ -5,6 +5,7 @@ use crate::{
     job::{largest_job, sufficient, table, Sizes, Table, MAX_MISSED_PRICE},
     recorded_live::recorded_live,
     recorded_refusals::recorded_refusals,
+    recorded_roads::recorded_roads,
     recorded_vans::recorded_vans,
     Random,
 };
@@ -13,7 +14,7 @@ use std::collections::BTreeMap;
 
 const SEED: u64 = 1;
 
-/// Sheets of a call that are not refused. Those of views and moves are all made one by one.
+/// Sheets of a call that are not refused. Those of views, of moves and of roadworks are all made one by one.
 const ACCEPTED: [(Call, usize); 9] = [
     (Call::Weigh, 30),
     (Call::StartPlan, 40),
@@ -26,7 +27,7 @@ const ACCEPTED: [(Call, usize); 9] = [
     (Call::Cancel, 40),
 ];
 
-/// All recorded sheets that are in form, in the order in which they joined: those of views and moves last.
+/// All recorded sheets that are in form, in the order in which they joined: those of roadworks last.
 pub fn recorded_sheets() -> Vec<Sheet> {
     let accepted = ACCEPTED.into_iter().flat_map(|(call, count)| {
         let mut turns = Turns::new(call);
@@ -42,6 +43,7 @@ pub fn recorded_sheets() -> Vec<Sheet> {
         .chain([first_average_sheet()])
         .chain(largest_sheets())
         .chain(recorded_vans())
+        .chain(recorded_roads())
         .collect()
 }
 

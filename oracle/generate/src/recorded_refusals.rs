@@ -1,4 +1,5 @@
-//! The recorded sheets with arguments to refuse, except those of views and moves, which stand with the others of these calls.
+//! The recorded sheets with arguments to refuse, except those of views, of moves and of roadworks, which stand with the others of
+//! these calls.
 
 use sheet::{given_live, refusal, Call, Job, Sheet, UNUSED};
 

@@ -50,7 +50,7 @@ fn street() -> Job {
 const PLAN: [&[usize]; 3] = [&[0, 1, 2], &[4, 3], &[]];
 
 /// Vans at one place and stops at another, 5 away and 6 back.
-fn two_places(vehicle_count: usize, stop_count: usize) -> Job {
+pub fn two_places(vehicle_count: usize, stop_count: usize) -> Job {
     Job {
         vehicles: vec![[0, 0]; vehicle_count],
         stops: vec![1; stop_count],
@@ -59,7 +59,8 @@ fn two_places(vehicle_count: usize, stop_count: usize) -> Job {
     }
 }
 
-fn plan(job: &Job, routes: &[&[usize]]) -> Vec<u32> {
+/// The plan form of a job's routes.
+pub fn plan(job: &Job, routes: &[&[usize]]) -> Vec<u32> {
     let routes = routes
         .iter()
         .map(|route| route.to_vec())

@@ -1,5 +1,5 @@
-use crate::{sheet::accepted_sheet, Random};
-use sheet::{contains, decode, encode, given_live, refusal, Call, Sheet, UNUSED};
+use crate::{job::MAX_DISTANCE, sheet::accepted_sheet, Random};
+use sheet::{contains, decode, encode, given_live, refusal, Call, Road, Sheet, UNUSED};
 
 const MAX_TRIES: usize = 20;
 
@@ -16,6 +16,24 @@ pub fn refused_sheet(random: &mut Random, calls: &[Call]) -> Sheet {
         refuse(random, &mut sheet);
     }
 
+    surely_refused(random, sheet)
+}
+
+/// A sheet of roadworks with a road to refuse, or one that just passes, and none to three other arguments to refuse.
+pub fn refused_road_sheet(random: &mut Random) -> Sheet {
+    let mut sheet = accepted_sheet(random, Call::Roadworks);
+
+    for _ in 0..random.choose(&[0, 1, 1, 2, 3]) {
+        refuse(random, &mut sheet);
+    }
+
+    damage_road(random, &mut sheet);
+
+    surely_refused(random, sheet)
+}
+
+/// The sheet with further arguments to refuse until it is refused.
+fn surely_refused(random: &mut Random, mut sheet: Sheet) -> Sheet {
     for _ in 0..MAX_TRIES {
         if refusal(&sheet).is_some() {
             break;
@@ -56,6 +74,7 @@ pub fn refuse(random: &mut Random, sheet: &mut Sheet) {
         6 => sheet.job.missed = random.choose(&[10_000_000_000_001, 99_999_999_999_999]),
         7 | 8 | 11..=13 if sheet.call.has_live_stops() => damage_live(random, sheet),
         7 | 8 | 11..=13 if sheet.call.has_vans() => damage_vans(random, sheet),
+        7 | 8 | 11..=13 if sheet.call.has_road() => damage_road(random, sheet),
         7 => sheet.job.smoothing = random.choose(&[0, 1_001, u32::MAX]),
         8 => sheet.job.limit = random.choose(&[0, 1_000_001, u32::MAX]),
         9 | 10 => damage_plan(random, sheet),
@@ -259,6 +278,37 @@ fn damage_vans(random: &mut Random, sheet: &mut Sheet) {
 
             sheet.given[3] = random.choose(&[length, length, length.wrapping_add(1), u32::MAX]);
         }
+    }
+}
+
+/// A road that is not in the table, or one that becomes just as long as a distance may be, longer, or so much longer that the
+/// sum has more than 32 bits.
+fn damage_road(random: &mut Random, sheet: &mut Sheet) {
+    let location_count = sheet.job.distances.len() as u32;
+    let unknown = random.choose(&[location_count, location_count + 1, u32::MAX]);
+    let Road { from, to, .. } = sheet.road();
+    let entry = sheet
+        .job
+        .distances
+        .get(from as usize)
+        .and_then(|row| row.get(to as usize))
+        .copied()
+        .unwrap_or(0);
+    let room = MAX_DISTANCE.saturating_sub(entry);
+    // What the entry wraps around to 0 with, to half of itself, and to one less.
+    let wrapping = [0, entry / 2, entry.wrapping_sub(1)].map(|sum| sum.wrapping_sub(entry));
+
+    match random.below(7) {
+        0 => sheet.given[0] = unknown,
+        1 => sheet.given[1] = unknown,
+        2 => {
+            sheet.given[0] = unknown;
+            sheet.given[1] = random.choose(&[to, unknown, location_count]);
+        }
+        3 => sheet.given[2] = room,
+        4 => sheet.given[2] = room + 1,
+        5 => sheet.given[2] = random.choose(&wrapping),
+        _ => sheet.given[2] = random.choose(&[1 << 31, u32::MAX - entry, u32::MAX]),
     }
 }
 

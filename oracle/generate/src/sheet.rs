@@ -1,7 +1,8 @@
 use crate::{
-    job::{any_job, job, live_job, run_job, small_job, vans_job, Sizes},
+    job::{any_job, job, live_job, road_job, run_job, small_job, vans_job, Sizes},
     live::live_sheet,
     refused::refuse,
+    roads::road_sheet,
     vans::vans_sheet,
     Random,
 };
@@ -9,7 +10,7 @@ use sheet::{encode, Call, Job, Sheet};
 
 /// A sheet of any call, mostly of those with many cases.
 pub fn any_sheet(random: &mut Random) -> Sheet {
-    let call = match random.below(30) {
+    let call = match random.below(32) {
         0 => Call::Weigh,
         1 | 2 => Call::StartPlan,
         3..=10 => Call::TwoOpt,
@@ -20,7 +21,8 @@ pub fn any_sheet(random: &mut Random) -> Sheet {
         20..=22 => Call::Arrive,
         23 | 24 => Call::Cancel,
         25 | 26 => Call::View,
-        _ => Call::MoveStop,
+        27..=29 => Call::MoveStop,
+        _ => Call::Roadworks,
     };
 
     some_sheet(random, call)
@@ -43,6 +45,7 @@ pub fn accepted_sheet(random: &mut Random, call: Call) -> Sheet {
         Call::Solve => run_job(random),
         Call::Arrive | Call::Cancel => live_job(random),
         Call::View | Call::MoveStop => vans_job(random),
+        Call::Roadworks => road_job(random),
         _ => any_job(random),
     };
 
@@ -69,6 +72,10 @@ pub fn sheet(random: &mut Random, call: Call, job: Job) -> Sheet {
 
     if call.has_vans() {
         return vans_sheet(random, call, job);
+    }
+
+    if call.has_road() {
+        return road_sheet(random, job);
     }
 
     let plan = if call.has_plan() {

@@ -7,6 +7,7 @@ mod live;
 mod plan;
 mod pruned;
 mod rebuild;
+mod roads;
 mod run;
 mod start;
 mod two_opt;
@@ -14,7 +15,7 @@ mod vans;
 
 use day::Day;
 use plan::Plan;
-use sheet::{Changed, Job, Moved, Planner, Routes, Run, Seen};
+use sheet::{Changed, Job, Moved, Planner, Road, Routes, Run, Seen};
 
 pub struct Plain;
 
@@ -87,5 +88,9 @@ impl Planner for Plain {
         place: usize,
     ) -> Moved {
         vans::move_stop(job, routes, vans, stop, van, place)
+    }
+
+    fn roadworks(job: &Job, routes: &Routes, road: Road) -> u64 {
+        roads::ceiling(job, routes, road)
     }
 }

@@ -17,7 +17,32 @@ pub struct Job {
     pub draws: Vec<u32>,
 }
 
-pub const CALL_COUNT: usize = 11;
+impl Job {
+    /// The job on which a road is so much longer.
+    pub fn lengthened(&self, road: Road) -> Self {
+        let mut job = self.clone();
+
+        job.distances[road.from as usize][road.to as usize] += road.more;
+        job
+    }
+}
+
+/// A table entry, by its two locations, and the metres by which roadworks make it longer. They may be any numbers.
+#[derive(Clone, Copy, Debug, Eq, PartialEq)]
+pub struct Road {
+    pub from: u32,
+    pub to: u32,
+    pub more: u32,
+}
+
+impl Road {
+    /// What a sheet of the roadworks gives.
+    pub fn given(self) -> Vec<u32> {
+        vec![self.from, self.to, self.more]
+    }
+}
+
+pub const CALL_COUNT: usize = 12;
 
 #[derive(Clone, Copy, Debug, Eq, PartialEq)]
 pub enum Call {
@@ -32,6 +57,7 @@ pub enum Call {
     Cancel,
     View,
     MoveStop,
+    Roadworks,
 }
 
 impl Call {
@@ -47,6 +73,7 @@ impl Call {
         Self::Cancel,
         Self::View,
         Self::MoveStop,
+        Self::Roadworks,
     ];
 
     pub fn from_number(number: u64) -> Option<Self> {
@@ -72,9 +99,14 @@ impl Call {
         matches!(self, Self::View | Self::MoveStop)
     }
 
+    /// Whether a sheet of the call has a line with a road and how much longer it becomes.
+    pub fn has_road(self) -> bool {
+        self == Self::Roadworks
+    }
+
     /// Whether a sheet of the call has a line with given numbers of whatever kind.
     pub fn has_given_line(self) -> bool {
-        self.has_given_stops() || self.has_live_stops() || self.has_vans()
+        self.has_given_stops() || self.has_live_stops() || self.has_vans() || self.has_road()
     }
 
     /// Whether a sheet of the call has a line with a plan.
@@ -82,6 +114,7 @@ impl Call {
         matches!(self, Self::Weigh | Self::TwoOpt | Self::Rebuild)
             || self.has_live_stops()
             || self.has_vans()
+            || self.has_road()
     }
 
     /// Whether the call is lent the locations' table, and so tests them.
@@ -96,7 +129,7 @@ impl Call {
 
 /// One call with its arguments. `given` and `plan` are empty where the call has none. Of an arrival or a cancellation
 /// `given` is the stop and the live stops' low and high half; of a view it is the caller's vans; of a move the caller's
-/// vans, the stop, the van and the place.
+/// vans, the stop, the van and the place; of roadworks the road's two locations and the metres that it becomes longer by.
 #[derive(Clone, Debug, Eq, PartialEq)]
 pub struct Sheet {
     pub call: Call,
@@ -129,6 +162,15 @@ impl Sheet {
     /// The place that a move puts its stop at, counted after the stop has been taken out.
     pub fn place(&self) -> u32 {
         self.given[3]
+    }
+
+    /// The road that roadworks make longer.
+    pub fn road(&self) -> Road {
+        Road {
+            from: self.given[0],
+            to: self.given[1],
+            more: self.given[2],
+        }
     }
 }
 
@@ -181,7 +223,7 @@ pub fn job_a() -> Job {
 }
 
 /// A call on Job A: the plan of both stops in order, and both stops given, where the call has them. Stop 1 arrives where
-/// only stop 0 is live and placed; it is moved to the front.
+/// only stop 0 is live and placed; it is moved to the front; the road between the stops becomes longer.
 pub fn sheet_a(call: Call) -> Sheet {
     Sheet {
         call,
@@ -191,6 +233,7 @@ pub fn sheet_a(call: Call) -> Sheet {
             Call::Cancel => given_live(1, 3),
             Call::View => vec![1],
             Call::MoveStop => vec![1, 1, 0, 0],
+            Call::Roadworks => vec![1, 2, 5],
             _ => vec![],
         },
         plan: match call {

@@ -9,7 +9,7 @@ mod table;
 mod write;
 
 pub use job::{
-    all_stops, contains, given_live, holds, job_a, placed_stops, sheet_a, Call, Job, Sheet,
+    all_stops, contains, given_live, holds, job_a, placed_stops, sheet_a, Call, Job, Road, Sheet,
     CALL_COUNT,
 };
 pub use plan::{decode, encode, Routes, UNUSED};
@@ -71,4 +71,5 @@ pub trait Planner {
         van: usize,
         place: usize,
     ) -> Moved;
+    fn roadworks(job: &Job, routes: &Routes, road: Road) -> u64;
 }

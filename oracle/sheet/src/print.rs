@@ -102,6 +102,7 @@ fn answer<P: Planner>(sheet: &Sheet) -> String {
 
             change_line(moved.change) + &plan_line(&moved.routes)
         }
+        Call::Roadworks => costs([P::roadworks(job, &routes, sheet.road())]),
     }
 }
 

@@ -31,6 +31,7 @@ pub fn read_sheet(input: &[u8]) -> Result<(Sheet, &[u8]), Malformed> {
         Call::Arrive | Call::Cancel => reader.small_numbers::<3>()?.to_vec(),
         Call::View => reader.small_numbers::<1>()?.to_vec(),
         Call::MoveStop => reader.small_numbers::<4>()?.to_vec(),
+        Call::Roadworks => reader.small_numbers::<3>()?.to_vec(),
         _ => vec![],
     };
     let plan = if call.has_plan() {
@@ -179,7 +180,7 @@ fn limited(number: u64, min: u64, max: u64) -> Result<usize, Malformed> {
 #[cfg(test)]
 mod tests {
     use super::*;
-    use crate::{given_live, job_a, sheet_a, write_job, write_sheet};
+    use crate::{given_live, job_a, sheet_a, write_job, write_sheet, Road};
 
     fn reads(text: &str) -> bool {
         matches!(read_job(text.as_bytes()), Ok((_, [])))
@@ -268,8 +269,8 @@ mod tests {
     }
 
     #[test]
-    fn reads_as_many_numbers_as_a_caller_gives() {
-        for (call, number_count) in [(Call::View, 1), (Call::MoveStop, 4)] {
+    fn reads_as_many_numbers_as_a_call_is_given() {
+        for (call, number_count) in [(Call::View, 1), (Call::MoveStop, 4), (Call::Roadworks, 3)] {
             for count in 0..7 {
                 let sheet = Sheet {
                     given: vec![u32::MAX; count],
@@ -298,6 +299,19 @@ mod tests {
 
         assert_eq!((sheet.vans(), sheet.stop()), (5, 7));
         assert_eq!((sheet.van(), sheet.place()), (2, 3));
+
+        let road = Road {
+            from: 5,
+            to: 7,
+            more: 2,
+        };
+        let sheet = Sheet {
+            given: vec![5, 7, 2],
+            ..sheet_a(Call::Roadworks)
+        };
+
+        assert_eq!(sheet.road(), road);
+        assert_eq!(road.given(), sheet.given);
     }
 
     #[test]

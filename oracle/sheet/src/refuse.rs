@@ -1,4 +1,4 @@
-use crate::{all_stops, contains, decode, holds, placed_stops, Call, Job, Routes, Sheet};
+use crate::{all_stops, contains, decode, holds, placed_stops, Call, Job, Road, Routes, Sheet};
 
 const MAX_DISTANCE: u32 = 200_000;
 const MAX_LINEAR_PRICE: u32 = 1_000_000;
@@ -27,15 +27,14 @@ pub fn refusal(sheet: &Sheet) -> Option<u64> {
             4,
             call.has_plan() && plan.len() != vehicle_count + stop_count,
         ),
-        (6, call.has_table() && has_unknown_location(job)),
+        (
+            6,
+            call.has_table() && has_unknown_location(job)
+                || call.has_road() && is_unknown_road(sheet),
+        ),
         (
             7,
-            call.has_table()
-                && job
-                    .distances
-                    .iter()
-                    .flatten()
-                    .any(|&distance| distance > MAX_DISTANCE),
+            call.has_table() && has_long_distance(job) || call.has_road() && is_long_road(sheet),
         ),
         (8, call.has_prices() && has_high_price(job)),
         (
@@ -76,6 +75,34 @@ fn has_unknown_location(job: &Job) -> bool {
         .flatten()
         .chain(&job.stops)
         .any(|&location| location as usize >= job.distances.len())
+}
+
+/// Whether one of a road's two locations is not in the table.
+fn is_unknown_road(sheet: &Sheet) -> bool {
+    let Road { from, to, .. } = sheet.road();
+
+    [from, to]
+        .iter()
+        .any(|&location| location as usize >= sheet.job.distances.len())
+}
+
+fn has_long_distance(job: &Job) -> bool {
+    job.distances
+        .iter()
+        .flatten()
+        .any(|&distance| distance > MAX_DISTANCE)
+}
+
+/// Whether a road that is in the table would become longer than a distance may be. The sum may have more than 32 bits.
+fn is_long_road(sheet: &Sheet) -> bool {
+    let Road { from, to, more } = sheet.road();
+    let entry = sheet
+        .job
+        .distances
+        .get(from as usize)
+        .and_then(|row| row.get(to as usize));
+
+    entry.is_some_and(|&distance| distance as u64 + more as u64 > MAX_DISTANCE as u64)
 }
 
 fn has_high_price(job: &Job) -> bool {
@@ -142,9 +169,15 @@ mod tests {
     use super::*;
     use crate::{given_live, job_a, sheet_a, UNUSED};
 
-    /// A sheet with every number at its limit.
+    /// A sheet with every number at its limit, so that no road can become longer.
     fn sheet(call: Call) -> Sheet {
+        let example = sheet_a(call);
+
         Sheet {
+            given: match call {
+                Call::Roadworks => vec![1, 2, 0],
+                _ => example.given.clone(),
+            },
             job: Job {
                 distances: vec![vec![200_000; 3]; 3],
                 linear: 1_000_000,
@@ -154,7 +187,7 @@ mod tests {
                 limit: 1_000_000,
                 ..job_a()
             },
-            ..sheet_a(call)
+            ..example
         }
     }
 
@@ -176,9 +209,11 @@ mod tests {
     fn refuses_by_call() {
         use Call::*;
 
-        let planned = [Weigh, TwoOpt, Rebuild, Arrive, Cancel, View, MoveStop];
+        let planned = [
+            Weigh, TwoOpt, Rebuild, Arrive, Cancel, View, MoveStop, Roadworks,
+        ];
         let priced = [
-            Weigh, TwoOpt, Rebuild, Exhaustive, Pruned, Solve, Arrive, Cancel, MoveStop,
+            Weigh, TwoOpt, Rebuild, Exhaustive, Pruned, Solve, Arrive, Cancel, MoveStop, Roadworks,
         ];
         // All but a view.
         let tabled = [&priced[..], &[StartPlan]].concat();
@@ -344,6 +379,77 @@ mod tests {
         for stop in [4, 32, 64, 65, u32::MAX] {
             assert_eq!(vans([0b111, stop, 0, 0]), [None, Some(12)]);
             assert_eq!(vans([0b1111, stop, 9, 9]), [Some(15), Some(12)]);
+        }
+    }
+
+    /// The refusal of roadworks on a table of two locations, of which the last distance is given.
+    fn road(given: [u32; 3], last: u32) -> Option<u64> {
+        let mut sheet = Sheet {
+            given: given.to_vec(),
+            ..sheet_a(Call::Roadworks)
+        };
+
+        sheet.job.vehicles = vec![[0, 1]];
+        sheet.job.stops = vec![0, 1];
+        sheet.job.distances = vec![vec![10, 10], vec![200_000, last]];
+        refusal(&sheet)
+    }
+
+    #[test]
+    fn refuses_by_road() {
+        for more in [0, 1, 199_990] {
+            assert_eq!(road([0, 1, more], 0), None);
+        }
+
+        assert_eq!(road([1, 0, 0], 0), None);
+        assert_eq!(road([1, 1, 200_000], 0), None);
+
+        // One beyond, and sums that wrap around to a small number, to the limit or to none.
+        for more in [199_991, u32::MAX - 9, u32::MAX - 8, u32::MAX] {
+            assert_eq!(road([0, 1, more], 0), Some(7));
+        }
+
+        assert_eq!(road([1, 0, 1], 0), Some(7));
+        assert_eq!(road([1, 0, u32::MAX - 199_999], 0), Some(7));
+        assert_eq!(road([1, 1, 200_001], 0), Some(7));
+
+        // Another distance is beyond the limit.
+        assert_eq!(road([0, 1, 0], 200_001), Some(7));
+
+        for location in [2, 3, 80, u32::MAX] {
+            for more in [0, 200_001, u32::MAX] {
+                for last in [0, 200_001] {
+                    assert_eq!(road([location, 1, more], last), Some(6));
+                    assert_eq!(road([0, location, more], last), Some(6));
+                    assert_eq!(road([location, location, more], last), Some(6));
+                }
+            }
+        }
+    }
+
+    #[test]
+    fn refuses_a_road_in_its_turn() {
+        let longer = |sheet: &mut Sheet| sheet.given[2] = 1;
+        let elsewhere = |sheet: &mut Sheet| sheet.given[0] = 3;
+        let dear = |sheet: &mut Sheet| sheet.job.linear += 1;
+        let twice = |sheet: &mut Sheet| sheet.plan[2] = 0;
+        let short = |sheet: &mut Sheet| sheet.plan.truncate(2);
+        let changes: [(u64, &dyn Fn(&mut Sheet)); 5] = [
+            (4, &short),
+            (6, &elsewhere),
+            (7, &longer),
+            (8, &dear),
+            (11, &twice),
+        ];
+
+        for (index, (_, higher)) in changes.iter().enumerate() {
+            for (number, lower) in &changes[..=index] {
+                let mut sheet = sheet(Call::Roadworks);
+
+                higher(&mut sheet);
+                lower(&mut sheet);
+                assert_eq!(refusal(&sheet), Some(*number));
+            }
         }
     }
 

@@ -12,6 +12,7 @@ const NAMES: [&str; CALL_COUNT] = [
     "cancel",
     "view",
     "move",
+    "roadworks",
 ];
 
 /// A table of counts by call: the heading of its first column, and a name and the counts for each row. No count is no text.

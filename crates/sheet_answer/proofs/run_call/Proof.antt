@@ -58,8 +58,8 @@ returns-3 c =
     let f = called .solve .ensures in
     ran-solve _ _ _ (s .args .call) (s .args .given .now) (s .args .plan .now) _ _ (branch .if3 .taken) (f .1) (f .0)
 
-run-vans-requires : tie.Need-run-vans-requires
-run-vans-requires c κs = search needs
+run-later-requires : tie.Need-run-later-requires
+run-later-requires c κs = search needs
 
 same-length-7 : tie.Need-same-length-7
 same-length-7 c = search needs
@@ -69,10 +69,10 @@ same-length-8 c = search needs
 
 returns-4 : tie.Need-returns-4
 returns-4 c =
-    c .before .before .before .before .run-vans .ensures _ refl
+    c .before .before .before .before .run-later .ensures _ refl
 
-run-live-requires : tie.Need-run-live-requires
-run-live-requires c κs = search needs
+run-priced-requires : tie.Need-run-priced-requires
+run-priced-requires c κs = search needs
 
 same-length-9 : tie.Need-same-length-9
 same-length-9 c = search needs
@@ -82,23 +82,10 @@ same-length-10 c = search needs
 
 returns-5 : tie.Need-returns-5
 returns-5 c =
-    c .before .before .before .before .run-live .ensures _ refl
-
-run-priced-requires : tie.Need-run-priced-requires
-run-priced-requires c κs = search needs
-
-same-length-11 : tie.Need-same-length-11
-same-length-11 c = search needs
-
-same-length-12 : tie.Need-same-length-12
-same-length-12 c = search needs
-
-returns-6 : tie.Need-returns-6
-returns-6 c =
     c .before .before .before .before .run-priced .ensures _ refl
 
 pub run-call-spec : {M : Type 1} → statement M
 run-call-spec =
     tie.close (tie.spec weigh-requires same-length same-length-2 returns start-plan-requires same-length-3 same-length-4 returns-2
-    solve-requires same-length-5 same-length-6 returns-3 run-vans-requires same-length-7 same-length-8 returns-4 run-live-requires
-    same-length-9 same-length-10 returns-5 run-priced-requires same-length-11 same-length-12 returns-6)
+    solve-requires same-length-5 same-length-6 returns-3 run-later-requires same-length-7 same-length-8 returns-4 run-priced-requires
+    same-length-9 same-length-10 returns-5)

@@ -39,12 +39,12 @@ array-borrow-prefix-seen c = search needs
 slice-aggregate-view : tie.Need-slice-aggregate-view
 slice-aggregate-view c =
     let s = start (c .before .before .before .before) in
-    sym (lent-length _ (s .pre .1 .1))
+    sym (lent-length _ (s .pre .1 .2))
 
 view-requires : tie.Need-view-requires
 view-requires c κs =
     let s = start (c .before .before .before .before .before) in
-    lent-printable _ _ (s .pre .1 .1) (s .pre .0 .printable .room)
+    lent-printable _ _ (s .pre .1 .2) (s .pre .0 .printable .room)
 
 same-length : tie.Need-same-length
 same-length c = search needs
@@ -58,13 +58,13 @@ returns c =
     let branch = called .before .before .before .before .before in
     let s = start (branch .before) in
     let f = called .view .ensures in
-    ran-view _ _ _ (s .args .call) (s .args .given .now) (s .args .plan .now) _ _ _ (branch .if1 .taken) (take-replicate _ 96 0 (s .pre .1 .1)) (f .1) (f .0)
+    ran-view _ _ _ (s .args .call) (s .args .given .now) (s .args .plan .now) _ _ _ (branch .if1 .taken) (take-replicate _ 96 0 (s .pre .1 .2)) (f .1) (f .0)
 
 move-stop-requires : tie.Need-move-stop-requires
 move-stop-requires c κs =
     let branch = c .before .before in
     let s = start (branch .before) in
-    (s .pre .0 .printable, s .pre .0 .counted 11 (other _ (s .pre .1 .0) (s .pre .0 .last) (branch .if1 .left)) refl)
+    (s .pre .0 .printable, s .pre .0 .counted 11 (other _ (s .pre .1 .0) (s .pre .1 .1) (branch .if1 .left)) refl)
 
 same-length-3 : tie.Need-same-length-3
 same-length-3 c = search needs
@@ -78,7 +78,7 @@ returns-2 c =
     let branch = called .before .before .before in
     let s = start (branch .before) in
     let f = called .move-stop .ensures in
-    ran-move _ _ _ (s .args .call) (s .args .given .now) (s .args .plan .now) _ _ (other _ (s .pre .1 .0) (s .pre .0 .last) (branch .if1 .left)) (f .1) (f .0)
+    ran-move _ _ _ (s .args .call) (s .args .given .now) (s .args .plan .now) _ _ (other _ (s .pre .1 .0) (s .pre .1 .1) (branch .if1 .left)) (f .1) (f .0)
 
 pub run-vans-spec : {M : Type 1} → statement M
 run-vans-spec =

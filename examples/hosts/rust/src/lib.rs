@@ -8,7 +8,7 @@
 //! then [`UNUSED`] in each place that is left.
 //!
 //! ```
-//! use planner::{Job, Move, Refusal, Running};
+//! use planner::{Job, Move, Refusal, Road, Running};
 //!
 //! let job = Job {
 //!     vehicles: &[0, 0],
@@ -38,6 +38,11 @@
 //! assert_eq!(planner::move_stop(&job, &mut plan, vans, to_the_end)?, 14);
 //! assert_eq!(planner::view(&job, &plan, vans, &mut seen)?, 0); // no stop is on no route
 //! assert_eq!(seen, [2, 0, 1]);
+//!
+//! // The road between the two stops is to be 5 metres longer for some time. The plan uses it once, so it can get 5 dearer.
+//! let road = Road { from: 1, to: 2, more: 5 };
+//!
+//! assert_eq!(planner::roadworks(&job, &plan, road)?, 5);
 //! # Ok::<(), Refusal>(())
 //! ```
 
@@ -113,6 +118,17 @@ pub struct Move {
     pub van: u32,
     /// The place on that van's route, counted from 0 after the stop has been taken out. The route's end is one.
     pub place: u32,
+}
+
+/// A road, which is an entry of the table, and by how much it is to be longer.
+#[derive(Clone, Copy, Debug, Eq, PartialEq)]
+pub struct Road {
+    /// The location that it leads from.
+    pub from: u32,
+    /// The location that it leads to.
+    pub to: u32,
+    /// The metres that roadworks add to it.
+    pub more: u32,
 }
 
 /// The cost of a plan.
@@ -282,4 +298,21 @@ pub fn move_stop(job: &Job, plan: &mut [u32], vans: u32, Move { stop, van, place
     };
 
     answer(number, change)
+}
+
+/// Answers the most by which a plan's cost can rise where roadworks lengthen a road: `more` × S × (w + q × (2 × T + `more` × S)), with
+/// w and q the prices of a metre and of a squared metre, S the uses of the road by the routes (an empty one has the one leg from start
+/// to end), and T the length of all routes together. The true rise is never above that.
+#[rustfmt::skip]
+pub fn roadworks(job: &Job, plan: &[u32], Road { from, to, more }: Road) -> Result<u64, Refusal> {
+    let mut rise = 0;
+    let number = unsafe {
+        raw::planner_roadworks(
+            job.vehicles.as_ptr(), job.vehicles.len(), job.stops.as_ptr(), job.stops.len(), job.locations,
+            job.distances.as_ptr(), job.distances.len(), job.linear, job.quadratic, job.missed,
+            plan.as_ptr(), plan.len(), from, to, more, &mut rise,
+        )
+    };
+
+    answer(number, rise)
 }

@@ -60,4 +60,9 @@ extern "C" {
         distances: *const u32, distances_len: usize, linear: u32, quadratic: u32, missed: u64,
         plan: *mut u32, plan_len: usize, vans: u32, stop: u32, van: u32, place: u32, change: *mut i64,
     ) -> u32;
+    pub fn planner_roadworks(
+        vehicles: *const u32, vehicles_len: usize, stops: *const u32, stops_len: usize, locations: u32,
+        distances: *const u32, distances_len: usize, linear: u32, quadratic: u32, missed: u64,
+        plan: *const u32, plan_len: usize, from: u32, to: u32, more: u32, rise: *mut u64,
+    ) -> u32;
 }

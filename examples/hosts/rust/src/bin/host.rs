@@ -1,6 +1,6 @@
 //! A host in Rust: Job A, planned by each call, with the same lines as the hosts in C and Python.
 
-use planner::{Job, Move, Refusal, Running, Standing};
+use planner::{Job, Move, Refusal, Road, Running, Standing};
 
 const JOB: Job = Job {
     vehicles: &[0, 0],
@@ -91,6 +91,22 @@ fn show_move(place: u32, plan: &mut [u32]) {
     );
 }
 
+/// Roadworks on the road from location 2 to location 1, of 1 metre, which the plan uses where stop 1 comes before stop 0.
+fn show_roadworks(more: u32, plan: &[u32]) {
+    let road = Road {
+        from: 2,
+        to: 1,
+        more,
+    };
+    let answer = planner::roadworks(&JOB, plan, road);
+
+    show(
+        "roadworks",
+        answer.map(|rise| format!(" rise {rise}")),
+        plan,
+    );
+}
+
 fn main() {
     let plan = &mut [5, 5, 5];
 
@@ -119,4 +135,6 @@ fn main() {
     show_view(0, plan); // without a van: no route is seen
     show_view(2, plan); // there is no van 1: refused
     show_move(0, plan); // from no route
+    show_roadworks(5, plan);
+    show_roadworks(200_000, plan); // 1 metre too long: refused
 }
