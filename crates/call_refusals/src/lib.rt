@@ -386,7 +386,8 @@ pub fn of_roadworks(
     if call_tests::bad_prices(prices) {
         return 8;
     }
-    if plan_form::is_plan(plan, vehicles.len() / 2, stops.len()) {
+    let v = vehicles.len() / 2;
+    if plan_form::is_plan(plan, v, stops.len()) {
         0
     } else {
         11
