@@ -51,7 +51,7 @@ module _ (vs ss : List ℕ) (l : ℕ) (ds xs : List ℕ) (M : Mapped vs ss l ds 
   routes : length P ≡ length vs / 2
   routes = lent-length (length vs / 2) (length ss) xs (M .plan)
 
-  -- each stop is on one leg more than the routes have
+  -- a route has one leg more than stops, so that all routes together have at most 80
   few-legs : placed P + length P ≤ 80
   few-legs = omega (arith, routes, lent-placed (length vs / 2) (length ss) xs (M .plan), M .limits .vehicles, M .limits .stops)
 
