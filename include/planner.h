@@ -82,7 +82,11 @@ uint32_t planner_two_opt(
     uint32_t first, uint32_t second,
     double *cost);
 
-/* Rebuilds a plan around one or two given stops. Writes the plan and its cost. */
+/* Rebuilds a plan around one or two given stops: on each route that has one it drains a region, a stretch around that stop, and it
+ * keeps the best way to put the drained stops back into the regions. Writes the plan, its cost, and two counts of the walk over these
+ * ways, which goes region by region: how many fillings of the first region were begun, that of the first given stop that has one, and
+ * how many arrangements were completed, each different one counted once. For 6 stops in two regions these are 1957 and 11743, for 7 in
+ * one both are 13700. Where no given stop is on a route nothing is drained, the plan stays as it is, and both are 0. */
 uint32_t planner_rebuild(
     const uint32_t *vehicles, size_t vehicles_len,
     const uint32_t *stops, size_t stops_len,
@@ -91,7 +95,7 @@ uint32_t planner_rebuild(
     uint32_t linear, uint32_t quadratic, uint64_t missed,
     uint32_t *plan, size_t plan_len,
     const uint32_t *given, size_t given_len,
-    double *cost);
+    double *cost, uint64_t *begun, uint64_t *completed);
 
 /* Writes the best of all plans, for at most 6 stops and 3 vehicles, and its cost. What the plan held is not read. */
 uint32_t planner_exhaustive(

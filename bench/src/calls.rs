@@ -1,7 +1,7 @@
 //! The answers of call sheets by the static library, its refusals among them.
 
 use crate::proved;
-use planner::{Move, Refusal, Standing};
+use planner::{Move, Refusal, Standing, Walk};
 use sheet::{change_line, costs, numbers, run_line, Call, Sheet};
 
 pub fn answer(sheet: &Sheet) -> String {
@@ -26,11 +26,12 @@ pub fn answer(sheet: &Sheet) -> String {
     }
 }
 
-/// Makes the call, and answers the line of its cost, its live stops and cost, its run, its change, or the rise, or the lines of its
-/// view.
+/// Makes the call, and answers the line of its cost, its cost and counts, its live stops and cost, its run, its change, or the rise,
+/// or the lines of its view.
 fn call(sheet: &Sheet, plan: &mut [u32]) -> Result<String, Refusal> {
     let job = &sheet.job;
     let line = |cost: f64| costs([cost as u64]);
+    let walk = |walk: Walk| costs([walk.cost as u64, walk.begun, walk.completed]);
     let standing = |standing: Standing| costs([standing.live, standing.cost as u64]);
     let view = |(unplaced, seen): (u64, Vec<u32>)| costs([unplaced]) + &numbers(&seen);
 
@@ -38,7 +39,7 @@ fn call(sheet: &Sheet, plan: &mut [u32]) -> Result<String, Refusal> {
         Call::Weigh => proved::weigh(job, plan).map(line),
         Call::StartPlan => proved::start_plan(job, plan).map(|()| String::new()),
         Call::TwoOpt => proved::two_opt(job, plan, [sheet.given[0], sheet.given[1]]).map(line),
-        Call::Rebuild => proved::rebuild(job, plan, &sheet.given).map(line),
+        Call::Rebuild => proved::rebuild(job, plan, &sheet.given).map(walk),
         Call::Exhaustive => proved::exhaustive(job, plan).map(line),
         Call::Pruned => proved::pruned(job, plan).map(line),
         Call::Solve => proved::solve(job, plan).map(run_line),
@@ -125,6 +126,57 @@ mod tests {
             given: given.to_vec(),
             ..sheet_a(call)
         })
+    }
+
+    #[test]
+    fn answers_what_a_rebuild_counts() {
+        let rebuild = |given: &[u32]| given_answer(Call::Rebuild, given);
+        let both = costs([6, 5, 5]) + &numbers(&[2, 1, 0]);
+
+        assert_eq!(rebuild(&[0]), both);
+        assert_eq!(rebuild(&[0, 1]), both);
+        assert_eq!(rebuild(&[]), costs([12]));
+        assert_eq!(rebuild(&[2]), costs([12]));
+
+        // A van for each stop.
+        let mut sheet = sheet_a(Call::Rebuild);
+
+        sheet.job.vehicles.push([0, 0]);
+        sheet.plan = vec![1, 1, 0, 1];
+        assert_eq!(answer(&sheet), costs([6, 5, 11]) + &numbers(&[0, 2, 1, 0]));
+
+        // No stop is on a route.
+        sheet.plan = vec![0, 0, UNUSED, UNUSED];
+        assert_eq!(
+            answer(&sheet),
+            costs([200, 0, 0]) + &numbers(&[0, 0, UNUSED, UNUSED])
+        );
+    }
+
+    /// Stops at one place, of which as many are drained as can be.
+    #[test]
+    fn answers_the_highest_counts() {
+        let mut sheet = sheet_a(Call::Rebuild);
+
+        sheet.job.vehicles.push([0, 0]);
+        sheet.job.stops = vec![0; 8];
+
+        for (given, lengths, begun, completed) in [
+            (&[1, 5][..], [4, 4], 1_957, 11_743),
+            (&[6, 2], [4, 4], 1_957, 11_743),
+            (&[3, 4], [8, 0], 1_957, 1_957),
+            (&[3], [8, 0], 13_700, 13_700),
+        ] {
+            sheet.given = given.to_vec();
+            sheet.plan = lengths.into_iter().chain(0..8).collect();
+
+            let answer = answer(&sheet);
+
+            assert!(
+                answer.starts_with(&costs([0, begun, completed])),
+                "{answer}"
+            );
+        }
     }
 
     #[test]

@@ -53,7 +53,7 @@ fn difference(random: &mut Random, arguments: &Arguments, outcome: &Outcome) -> 
 /// Whether arguments are at an edge.
 type Edge = (&'static str, fn(&Arguments) -> bool);
 
-const EDGES: [Edge; 64] = [
+const EDGES: [Edge; 71] = [
     ("no vehicles", |call| call.vehicles.is_empty()),
     ("16 vehicles", |call| call.vehicles.len() == 32),
     ("16 and a half", |call| call.vehicles.len() == 33),
@@ -83,6 +83,27 @@ const EDGES: [Edge; 64] = [
     ("equal given stops", equal_given),
     ("no given stops", |call| {
         call.call == Call::Rebuild && call.given.is_empty()
+    }),
+    ("no given stop placed", |call| {
+        drained(call, |regions| regions.is_empty())
+    }),
+    ("two given stops and one region", |call| {
+        call.given.len() == 2 && drained(call, |regions| regions.len() == 1)
+    }),
+    ("two regions", |call| {
+        drained(call, |regions| regions.len() == 2)
+    }),
+    ("1 stop drained", |call| {
+        drained(call, |regions| regions == [1])
+    }),
+    ("7 stops drained", |call| {
+        drained(call, |regions| regions == [7])
+    }),
+    ("1 stop of each of two routes drained", |call| {
+        drained(call, |regions| regions == [1, 1])
+    }),
+    ("3 stops of each of two routes drained", |call| {
+        drained(call, |regions| regions == [3, 3])
     }),
     ("6 stops and 3 vehicles", |call| {
         let is_exhaustive = matches!(call.call, Call::Exhaustive | Call::Pruned);
@@ -228,6 +249,11 @@ fn priced(call: &Arguments, condition: bool) -> bool {
 
 fn run(call: &Arguments, condition: bool) -> bool {
     call.call == Call::Solve && condition
+}
+
+/// Whether a rebuild drains so many stops of each region.
+fn drained(call: &Arguments, condition: fn(&[usize]) -> bool) -> bool {
+    call.drained().is_some_and(|regions| condition(&regions))
 }
 
 fn live(call: &Arguments, condition: bool) -> bool {

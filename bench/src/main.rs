@@ -6,6 +6,7 @@ mod calls;
 mod clock;
 mod fire;
 mod proved;
+mod rebuilds;
 mod roads;
 mod stack;
 mod times;

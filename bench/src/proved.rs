@@ -1,6 +1,6 @@
 //! The proved planner, called through the static library with the jobs of sheets.
 
-use planner::{Move, Refusal, Running, Standing, Totals};
+use planner::{Move, Refusal, Running, Standing, Totals, Walk};
 use sheet::{Job, Road, Run, UNUSED};
 
 pub const MAX_DISTANCE: u32 = 200_000;
@@ -46,7 +46,7 @@ pub fn two_opt(job: &Job, plan: &mut [u32], stops: [u32; 2]) -> Result<f64, Refu
     planner::two_opt(&Lists::new(job).job(), plan, stops)
 }
 
-pub fn rebuild(job: &Job, plan: &mut [u32], given: &[u32]) -> Result<f64, Refusal> {
+pub fn rebuild(job: &Job, plan: &mut [u32], given: &[u32]) -> Result<Walk, Refusal> {
     planner::rebuild(&Lists::new(job).job(), plan, given)
 }
 

@@ -1,4 +1,4 @@
-use crate::{arrivals, clock::least_time, job, roads, vans, Side, SIDES};
+use crate::{arrivals, clock::least_time, job, rebuilds, roads, vans, Side, SIDES};
 
 /// Rounds before those that are timed, so that reading the job, tables and start plan cancel out.
 const FIRST: u32 = 10;
@@ -13,11 +13,21 @@ pub fn tables() -> String {
         (0..JOBS).for_each(|index| check(sizes, index));
     }
 
+    let rebuilds = rebuilds::table(&SIZES, JOBS);
     let arrivals = arrivals::table(&SIZES, JOBS);
     let vans = vans::table(&SIZES, JOBS);
     let roads = roads::table(&SIZES, JOBS);
 
-    [by_size(), by_stops(), by_rounds(), arrivals, vans, roads].join("\n")
+    [
+        by_size(),
+        by_stops(),
+        by_rounds(),
+        rebuilds,
+        arrivals,
+        vans,
+        roads,
+    ]
+    .join("\n")
 }
 
 /// All sides give the same answer, and no run settles before its limit.

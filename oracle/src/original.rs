@@ -2,7 +2,7 @@
 
 use core::{BasicSolver, Location};
 use rand::rngs::Draws;
-use sheet::{Changed, Job, Moved, Planner, Road, Routes, Run, Seen};
+use sheet::{Changed, Job, Moved, Planner, Rebuilt, Road, Routes, Run, Seen};
 use simple::{
     cost::{CostCalculator, DeliveryCostCalculator, DistanceCostCalculator},
     route::TableRouter,
@@ -12,7 +12,10 @@ use simple::{
     },
     Problem, Solution, Stop, Vehicle,
 };
+use std::{collections::HashSet, mem, ops::Range};
 
+/// A vehicle and a stretch of its route.
+type Region = (usize, Range<usize>);
 type Calculator<'a> = DeliveryCostCalculator<&'a TableRouter, &'a Problem>;
 type Solver<'a> =
     RuinAndRecreateSolver<Calculator<'a>, &'a TableRouter, NearestNeighborSolver<&'a TableRouter>>;
@@ -32,8 +35,26 @@ impl Planner for Original {
         routes(&solver(job, &problem(job), &router(job)).run_pair_two_opt(&solution(plan), &stops))
     }
 
-    fn rebuild(job: &Job, plan: &Routes, stops: &[usize]) -> Routes {
-        routes(&solver(job, &problem(job), &router(job)).rebuild(&solution(plan), stops))
+    // The solver keeps a plan and counts nothing, so that the counts are of what its steps make: the different plans, and the
+    // different routes that these have for the first vehicle, of which only the region differs.
+    fn rebuild(job: &Job, plan: &Routes, stops: &[usize]) -> Rebuilt {
+        let kept = solver(job, &problem(job), &router(job)).rebuild(&solution(plan), stops);
+        let regions = regions(plan, stops);
+        let [begun, completed] = match regions.first() {
+            None => [0; 2],
+            Some(&(first, _)) => {
+                let met = arrangements(plan, &regions);
+                let fillings = met.iter().map(|plan| plan.routes()[first].to_vec());
+
+                [fillings.collect::<HashSet<_>>().len(), met.len()]
+            }
+        };
+
+        Rebuilt {
+            begun: begun as u64,
+            completed: completed as u64,
+            routes: routes(&kept),
+        }
     }
 
     fn exhaustive(job: &Job) -> Routes {
@@ -156,6 +177,63 @@ impl Planner for Original {
 
         ceiling
     }
+}
+
+/// The stretches around the picks that are on vehicles of their own, in the order of these. The solver does not show its own.
+fn regions(plan: &Routes, picks: &[usize]) -> Vec<Region> {
+    let mut places = Vec::<(usize, usize)>::new();
+
+    for pick in picks {
+        for (vehicle, route) in plan.iter().enumerate() {
+            if let Some(position) = route.iter().position(|stop| stop == pick) {
+                if places.iter().all(|&(other, _)| other != vehicle) {
+                    places.push((vehicle, position));
+                }
+            }
+        }
+    }
+
+    let size = (8 - picks.len()) / places.len().max(1);
+
+    places
+        .into_iter()
+        .map(|(vehicle, position)| {
+            let start = position.saturating_sub(size / 2);
+
+            (vehicle, start..plan[vehicle].len().min(start + size))
+        })
+        .collect()
+}
+
+/// The different plans with none, some or all of the regions' stops put back, as the solver puts them: at a region's front.
+fn arrangements(plan: &Routes, regions: &[Region]) -> HashSet<Solution> {
+    let mut drained = solution(plan);
+    let mut stops = vec![];
+
+    for (vehicle, range) in regions {
+        drained = drained.drain_route(*vehicle, range.clone());
+        stops.extend_from_slice(&plan[*vehicle][range.clone()]);
+    }
+
+    let mut met = HashSet::new();
+    let mut last = HashSet::from([drained]);
+
+    // Each time those with one stop more.
+    while !last.is_empty() {
+        let mut next = HashSet::new();
+
+        for plan in &last {
+            for &stop in stops.iter().filter(|&&stop| !plan.has_stop(stop)) {
+                for (vehicle, range) in regions {
+                    next.insert(plan.insert_stop(*vehicle, range.start, stop));
+                }
+            }
+        }
+
+        met.extend(mem::replace(&mut last, next));
+    }
+
+    met
 }
 
 /// The length of all routes together, by the solver's own.

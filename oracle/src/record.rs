@@ -27,7 +27,7 @@ pub fn record<P: Planner>(directory: &Path) -> io::Result<String> {
 type Kind = (&'static str, String);
 
 /// The rows' first words in the order of the table.
-const HEADINGS: [&str; 21] = [
+const HEADINGS: [&str; 22] = [
     "all",
     "refused",
     "size",
@@ -36,6 +36,7 @@ const HEADINGS: [&str; 21] = [
     "M",
     "plan",
     "pair",
+    "drained",
     "run",
     "draws",
     "live",
@@ -121,6 +122,7 @@ fn kinds<P: Planner>(sheet: &Sheet) -> Vec<Kind> {
     }
 
     match sheet.call {
+        Call::Rebuild => kinds.push(("drained", drained(sheet))),
         Call::Arrive => {
             kinds.push(("arrival", arrival::<P>(sheet).into()));
             kinds.extend(ties::<P>(sheet).map(|tie| ("tie", tie.into())));
@@ -218,6 +220,21 @@ fn pair(sheet: &Sheet) -> &'static str {
         [None] => "of one stop, unplaced",
         _ => "with both unplaced",
     }
+}
+
+/// How many stops a rebuild drains, and of how many routes.
+fn drained(sheet: &Sheet) -> String {
+    let regions = generate::drained(&routes(sheet), &sheet.given);
+    let stops = match regions.iter().map(Vec::len).sum() {
+        0 => return "no stop".into(),
+        1 => "1 stop".to_string(),
+        count => format!("{count} stops"),
+    };
+
+    format!(
+        "{stops} of {}",
+        ["one route", "two routes"][regions.len() - 1]
+    )
 }
 
 /// Which stops are live besides those on routes.

@@ -159,17 +159,18 @@ fn decides_ties_by_the_plans_numbers() {
         )
     };
     let weighed = |plan: &[u64]| columns(&[0], 20) + &line(plan);
+    let rebuilt = |count, plan: &[u64]| columns(&[0, count, count], 20) + &line(plan);
 
     check("calls", &(line(&[2]) + &zero(1, 2, 0)), &line(&[2, 0, 1]));
     check(
         "calls",
         &(lines(&[&[4], &[0], &[1, 0]]) + &zero(1, 1, 0)),
-        &weighed(&[1, 0]),
+        &rebuilt(2, &[1, 0]),
     );
     check(
         "calls",
         &(lines(&[&[4], &[0], &[2, 1, 0]]) + &zero(1, 2, 1)),
-        &weighed(&[2, 0, 1]),
+        &rebuilt(5, &[2, 0, 1]),
     );
     check("calls", &(line(&[5]) + &zero(1, 1, 0)), &weighed(&[1, 0]));
     check(
@@ -177,6 +178,86 @@ fn decides_ties_by_the_plans_numbers() {
         &(line(&[6]) + &zero(2, 1, 1)),
         &weighed(&[0, 1, 0]),
     );
+}
+
+/// A sheet of a rebuild (4) of stops at one place, where every plan of all stops that are placed costs the same.
+fn walk_sheet(vehicles: usize, stops: usize, picks: &[u64], plan: &[u64]) -> String {
+    lines(&[&[4], picks, plan])
+        + &job(
+            [vehicles as u64, stops as u64, 1, 1, 0, 1, 1, 1],
+            &vec![[0, 0]; vehicles],
+            &vec![0; stops],
+            &[&[0]],
+        )
+}
+
+#[test]
+fn counts_fillings_and_arrangements() {
+    let on_two = [4, 4, 0, 1, 2, 3, 4, 5, 6, 7];
+    let one_missed = [4, 3, 0, 1, 2, 3, 4, 5, 6, UNUSED];
+    let on_one = [0, 8, 0, 1, 2, 3, 4, 5, 6, 7];
+    let short = [1, 2, 0, 1, 2, UNUSED, UNUSED, UNUSED, UNUSED, UNUSED];
+    let none = [
+        0, 0, UNUSED, UNUSED, UNUSED, UNUSED, UNUSED, UNUSED, UNUSED, UNUSED,
+    ];
+
+    for (picks, plan, counts) in [
+        // Six stops of two routes, in both orders; as many of one; seven.
+        (&[1, 5][..], on_two, [0, 1_957, 11_743]),
+        (&[5, 1], on_two, [0, 1_957, 11_743]),
+        (&[1, 3], on_one, [0, 1_957, 1_957]),
+        (&[3], on_one, [0, 13_700, 13_700]),
+        // A region ends with its route: four stops of one, then two and three of two routes, two and two.
+        (&[7], on_one, [0, 65, 65]),
+        (&[3, 4], on_two, [0, 326, 1_631]),
+        (&[3, 7], on_two, [0, 65, 261]),
+        // Short routes, and picks that are on one or on none.
+        (&[0, 1], short, [5, 16, 49]),
+        (&[2, 0], short, [5, 16, 49]),
+        (&[0], short, [5, 2, 2]),
+        (&[1, 2], short, [5, 5, 5]),
+        (&[0, 3], short, [5, 2, 2]),
+        (&[3, 2], short, [5, 5, 5]),
+        (&[7, 4], one_missed, [1, 16, 16]),
+        (&[7], one_missed, [1, 0, 0]),
+        (&[3, 4], short, [5, 0, 0]),
+        (&[0], none, [8, 0, 0]),
+        (&[0, 1], none, [8, 0, 0]),
+    ] {
+        let sheet = walk_sheet(2, 8, picks, &plan);
+        let answer = print("calls", &sheet);
+
+        assert_eq!(answer.lines().next(), columns(&counts, 20).lines().next());
+        assert_eq!(answer.lines().count(), 2);
+        check("calls", &sheet, &answer);
+    }
+
+    check(
+        "calls",
+        &walk_sheet(0, 2, &[0, 1], &[UNUSED, UNUSED]),
+        &(columns(&[2, 0, 0], 20) + &line(&[UNUSED, UNUSED])),
+    );
+    check(
+        "calls",
+        &walk_sheet(2, 2, &[1, 1], &[1, 1, 0, 1]),
+        &columns(&[12], 20),
+    );
+}
+
+#[test]
+fn counts_on_job_a() {
+    for (picks, plan, counts, new) in [
+        (&[0][..], [2, 0, 1], [6, 5, 5], [2, 1, 0]),
+        (&[0, 1], [2, 0, 1], [6, 5, 5], [2, 1, 0]),
+        (&[0, 1], [1, 0, UNUSED], [104, 2, 2], [1, 0, UNUSED]),
+        (&[1], [1, 0, UNUSED], [104, 0, 0], [1, 0, UNUSED]),
+    ] {
+        check(
+            "calls",
+            &(lines(&[&[4], picks, &plan]) + &job_a(1, 0, 50)),
+            &(columns(&counts, 20) + &line(&new)),
+        );
+    }
 }
 
 #[test]

@@ -1,3 +1,4 @@
+use generate::drained;
 use sheet::{all_stops, decode, given_live, placed_stops, refusal, Call, Job, Road, Routes, Sheet};
 
 /// The arguments of a call as they cross the border, of whatever lengths. What the call does not take is not read.
@@ -124,6 +125,14 @@ impl Arguments {
         let others = routes.get(self.van as usize)?.iter();
 
         Some(others.filter(|&&other| other != stop).count())
+    }
+
+    /// How many stops a rebuild drains of each region, where one or two stops are given and the plan is one.
+    pub fn drained(&self) -> Option<Vec<usize>> {
+        let routes = self.routes()?;
+        let is_such = self.call == Call::Rebuild && (1..=2).contains(&self.given.len());
+
+        is_such.then(|| drained(&routes, &self.given).iter().map(Vec::len).collect())
     }
 
     /// How long the road is, where the table has it.

@@ -13,6 +13,7 @@ const READ: &str = "a list that is only read, or a number beside it";
 const PLAN: &str = "the plan, or a number beside it";
 const COST: &str = "a cost, or a number beside it";
 const COUNT: &str = "a count of rounds, the word of settling, or a number beside it";
+const WALK: &str = "a count of fillings or arrangements, or a number beside it";
 const SET: &str = "the set of live stops or of those on no route, or a number beside it";
 const SEEN: &str = "what is seen of the plan, or a number beside it";
 const CHANGE: &str = "the change in cost, or a number beside it";
@@ -81,6 +82,8 @@ pub struct Lent {
     costs: [Guarded<u64>; 2],
     /// Rounds, improving rounds, settled.
     counts: [Guarded<u32>; 3],
+    /// Fillings begun, arrangements completed.
+    walk: [Guarded<u64>; 2],
     /// The live stops after the call, or those on no route.
     set: Guarded<u64>,
     /// What a caller sees of the plan.
@@ -113,6 +116,7 @@ impl Lent {
                 Guarded::new(random, &[number], small)
             }),
             costs: [0; 2].map(|_| result(random)),
+            walk: [0; 2].map(|_| result(random)),
             set: result(random),
             change: {
                 let number = signed(random);
@@ -126,12 +130,13 @@ impl Lent {
     /// Makes the call, and answers the number that it returns.
     #[rustfmt::skip]
     pub fn call(&mut self, arguments: &Arguments) -> u32 {
-        let Self { vehicles, stops, distances, draws, given, plan, costs: [cost, end], counts: [rounds, improving, settled], set, seen, change, rise } = self;
+        let Self { vehicles, stops, distances, draws, given, plan, costs: [cost, end], counts: [rounds, improving, settled], walk, set, seen, change, rise } = self;
         let &Arguments { call, locations, linear, quadratic, missed, smoothing, limit, live, stop, vans, van, place, road, .. } = arguments;
         let [vehicles, stops, distances, draws, given, plan, seen] = [vehicles, stops, distances, draws, given, plan, seen]
             .map(|list| (list.address(), list.length()));
         let [cost, end] = [cost, end].map(|cost| cost.address().cast::<f64>());
         let [rounds, improving, settled] = [rounds, improving, settled].map(Guarded::address);
+        let [begun, completed] = walk.each_mut().map(Guarded::address);
         let (set, change, rise) = (set.address(), change.address(), rise.address());
 
         unsafe {
@@ -150,7 +155,7 @@ impl Lent {
                 ),
                 Call::Rebuild => raw::planner_rebuild(
                     vehicles.0, vehicles.1, stops.0, stops.1, locations, distances.0, distances.1,
-                    linear, quadratic, missed, plan.0, plan.1, given.0, given.1, cost,
+                    linear, quadratic, missed, plan.0, plan.1, given.0, given.1, cost, begun, completed,
                 ),
                 Call::Exhaustive => raw::planner_exhaustive(
                     vehicles.0, vehicles.1, stops.0, stops.1, locations, distances.0, distances.1,
@@ -209,6 +214,7 @@ impl Lent {
             (holds(&self.plan, left.plan.as_deref()), PLAN),
             (hold(&self.costs, &left.costs), COST),
             (hold(&self.counts, &left.counts), COUNT),
+            (hold(&self.walk, &left.walk), WALK),
             (hold([&self.set], &[left.set]), SET),
             (holds(&self.seen, left.seen.as_deref()), SEEN),
             (hold([&self.change], &[left.change]), CHANGE),
@@ -271,7 +277,7 @@ mod tests {
         assert_eq!(lent.difference(&outcome), name, "{call:?}");
     }
 
-    const FAULTS: [(Fault, &str); 20] = [
+    const FAULTS: [(Fault, &str); 24] = [
         (|lent| lent.vehicles.memory[0] ^= 1, READ),
         (|lent| *lent.stops.memory.last_mut().unwrap() ^= 1, READ),
         (
@@ -286,6 +292,16 @@ mod tests {
         (
             |lent| lent.counts[2].memory[lent.counts[2].start] ^= 1,
             COUNT,
+        ),
+        (|lent| lent.walk[0].memory[lent.walk[0].start] ^= 1, WALK),
+        (|lent| lent.walk[0].memory[lent.walk[0].end] ^= 1, WALK),
+        (
+            |lent| lent.walk[1].memory[lent.walk[1].start - 1] ^= 1,
+            WALK,
+        ),
+        (
+            |lent| lent.walk[1].memory[lent.walk[1].start] ^= 1 << 63,
+            WALK,
         ),
         (|lent| lent.set.memory[lent.set.start - 1] ^= 1, SET),
         (|lent| lent.set.memory[lent.set.start] ^= 1 << 63, SET),
@@ -310,6 +326,7 @@ mod tests {
     #[test]
     fn finds_what_was_changed() {
         for call in [
+            Call::Rebuild,
             Call::Solve,
             Call::Arrive,
             Call::Cancel,

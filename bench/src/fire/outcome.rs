@@ -1,6 +1,6 @@
 use super::arguments::Arguments;
 use plain::Plain;
-use sheet::{decode, encode, Call, Changed, Moved, Planner, Routes, Seen, Sheet};
+use sheet::{decode, encode, Call, Changed, Moved, Planner, Rebuilt, Routes, Seen, Sheet};
 
 /// What a call must do: the number of its refusal, with all that it was lent as it was, or what it must leave.
 #[derive(Debug)]
@@ -18,6 +18,8 @@ pub struct Left {
     /// A cost, or start and end cost, as the bits of f64.
     pub costs: [Option<u64>; 2],
     pub counts: [Option<u32>; 3],
+    /// Fillings begun, arrangements completed.
+    pub walk: [Option<u64>; 2],
     /// The live stops, or those on no route.
     pub set: Option<u64>,
     pub change: Option<i64>,
@@ -63,7 +65,7 @@ fn left(sheet: &Sheet) -> Left {
             ..Left::default()
         },
         Call::TwoOpt => weighed(Plain::two_opt(job, &routes(), [given[0], given[1]])),
-        Call::Rebuild => weighed(Plain::rebuild(job, &routes(), &given)),
+        Call::Rebuild => rebuilt(sheet, Plain::rebuild(job, &routes(), &given)),
         Call::Exhaustive => weighed(Plain::exhaustive(job)),
         Call::Pruned => weighed(Plain::pruned(job)),
         Call::Solve => {
@@ -94,6 +96,16 @@ fn left(sheet: &Sheet) -> Left {
             rise: Some(rise(sheet, &routes())),
             ..Left::default()
         },
+    }
+}
+
+/// What a rebuild leaves.
+fn rebuilt(sheet: &Sheet, rebuilt: Rebuilt) -> Left {
+    Left {
+        plan: plan(sheet, &rebuilt.routes),
+        costs: alone(Plain::weigh(&sheet.job, &rebuilt.routes)),
+        walk: [rebuilt.begun, rebuilt.completed].map(Some),
+        ..Left::default()
     }
 }
 

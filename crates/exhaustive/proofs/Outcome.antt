@@ -10,6 +10,7 @@ use Rattle.model.specs.Whole.{whole}
 use Rattle.model.specs.Job.{Job}
 use Rattle.model.specs.Plan.{encode, decode}
 use Rattle.model.specs.declared.Region.{Region}
+use Rattle.model.specs.declared.Walk.{Walk}
 use Rattle.model.specs.Region.{Stretch, Stretches}
 use Rattle.model.specs.Legs.{Fits, Solvable}
 use Rattle.model.specs.Cost.{cost}
@@ -18,7 +19,6 @@ use Rattle.model.specs.declared.Prices.{Prices}
 use Rattle.model.proofs.Lists.{length-upFrom}
 use Rattle.model.proofs.PlanForm.{decode-encode, lent-encode}
 use Rattle.rebuild_words.specs.Gaps.{regionsOf}
-use Rattle.rebuild_choice.specs.declared.Score.{Score}
 use Rattle.rebuild_arrange.specs.Arranged.{Arrangeable, Arranged}
 use Rattle.exhaustive.specs.Full.{fullPlan, fullRegions}
 use Rattle.exhaustive.proofs.Arranging.{regions-each, length-full, once-full, below-full, drained-full, full-chosen}
@@ -96,7 +96,7 @@ module _ (t : List ℕ) (v n : ℕ) (p : Prices) (zs : List ℕ) (G : Solvable t
         few = rw decoded (omega (arith, drained-full n v (G .vehicles), G .stops));
       }
 
-  pub chosen : (ys : List ℕ) (r : Score) → Arranged t v n p xs (fullRegions v n) ys r → (J : Job) → Fits J t v n p
+  pub chosen : (ys : List ℕ) (r : Walk) → Arranged t v n p xs (fullRegions v n) ys r → (J : Job) → Fits J t v n p
       → (ys ≡ encode n (exhaustive J)) × (r .cost ≡ whole (cost J (exhaustive J)))
   chosen ys r A J F =
       (rw (decoded, full-chosen v n (G .vehicles) J (F .vehicles) (F .stops)) at (A .best J F), rw (decoded, full-chosen v n (G .vehicles) J (F .vehicles) (F .stops)) at (A .cost J F))

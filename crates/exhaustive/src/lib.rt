@@ -33,6 +33,6 @@ pub fn exhaustive(legs: &[u32], v: usize, n: usize, prices: Prices, plan: &mut [
     full(plan, v, n);
     let regions = [0u32, 0, n as u32, 1, 0, 0, 2, 0, 0];
     let end = 3 * v;
-    let score = rebuild_arrange::rearrange(legs, v, n, prices, plan, &regions[..end]);
-    score.cost
+    let walk = rebuild_arrange::rearrange(legs, v, n, prices, plan, &regions[..end]);
+    walk.cost
 }

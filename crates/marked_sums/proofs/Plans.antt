@@ -1,7 +1,8 @@
--- The three plans whose arrangements are counted: all stops on the first route, with a gap that is all of it and an empty gap on each other route.
+-- The plans whose arrangements are counted: all stops on the first route, with a gap that is all of it and an empty gap on each other route,
+-- or with no gap.
 use Prim.Native.Nat.{ℕ, zero, suc, _+_, _*_, _≤_}
 use native.Mathlib.Omega.{arith}
-use mathlib.Core.Path.{_≡_, refl, _∙_}
+use mathlib.Core.Path.{_≡_, refl, ap, ap₂, _∙_}
 use mathlib.Core.Logic.{inl, inr}
 use mathlib.Core.Bool.{Bool, true, _&&_, and-eq-true-iff}
 use mathlib.Core.List.{List, [], _∷_}
@@ -11,14 +12,13 @@ use borrow.Author.Tests.{ltb-true, leb-true}
 use Rattle.model.specs.Lists.{In, allOnce}
 use Rattle.model.specs.Plan.{Plan, routeOf, decode, isPlan}
 use Rattle.model.specs.declared.Region.{Region}
-use Rattle.model.specs.Region.{vehiclesOf, Stretch}
+use Rattle.model.specs.Region.{drained, vehiclesOf, Stretch}
 use Rattle.model.specs.Legs.{LegTable}
+use Rattle.model.specs.Rebuild.{begun, completed, arrangementCount}
 use Rattle.model.proofs.Counts.{allOnce-once}
+use Rattle.model.proofs.Fillings.{begun-count, completed-count}
 use Rattle.model.proofs.PlanForm.{isPlan-lent}
 use Rattle.model.proofs.Members.{once-distinct}
-use Rattle.model.specs.Rebuild.{fillings}
-use Rattle.rebuild_words.specs.Words.{arrangementCount}
-use Rattle.rebuild_words.proofs.Visits.{count-fillings}
 use Rattle.rebuild_words.specs.Gaps.{regionsOf, Gapped}
 
 -- a table of no distances
@@ -29,10 +29,6 @@ zeros (suc n) (suc i) = zeros n i
 
 pub no-legs : LegTable (replicate 6400 0)
 no-legs = record { long = refl; small = λ i. rw (zeros 6400 i) (omega arith) }
-
--- a number of fillings goes by the number of gaps and stops
-pub counted : (k g : ℕ) (left : List ℕ) → k ≡ length (fillings g left) → k ≡ arrangementCount g (length left)
-counted k g left e = e ∙ count-fillings g left
 
 -- whether a region is a stretch of a route, and whether each of some is
 abbrev isStretch : Plan → Region → Bool
@@ -68,3 +64,10 @@ module _ (v n : ℕ) (xs regions : List ℕ) where
       each = tested (decode v xs) (regionsOf regions) s;
     };
   }
+
+-- six stops in three regions
+pub six-in-three : (P : Plan) (gs : List Region) → length gs ≡ 3 → length (drained P gs) ≡ 6 → (begun P gs ≡ 1957) × (completed P gs ≡ 42079)
+six-in-three P gs e m = (
+  begun-count P gs (omega arith) ∙ ap (arrangementCount 1) m,
+  completed-count P gs (omega arith) ∙ ap₂ arrangementCount e m,
+)

@@ -1,20 +1,23 @@
-// Worked figures of the specification, through the code. Prints the numbers of arrangements that the walk counts: of 7 stops in one gap, of 6 in two gaps, and
-// of 6 on three vehicles. The row for a pair on one route, 0 1 2 3 4 with stops 0 and 4, is checked.
+// Worked figures of the specification, through the code. Prints what the walk over the arrangements counts, the fillings of the first gap
+// that it began and the arrangements that it completed: of 7 stops in one gap, of 6 in two gaps, of no gap, and of 6 on three vehicles. The
+// row for a pair on one route, 0 1 2 3 4 with stops 0 and 4, is checked.
 ghost use mathlib.Core.Path.{_≡_};
 ghost use mathlib.Core.List.{[], _∷_};
 ghost use Prim.Native.Nat.{_≤_};
 ghost use lib.ListN.{length};
 ghost use Rattle.model.specs.Plan.{decode};
 ghost use Rattle.model.specs.Region.{drained};
-ghost use Rattle.rebuild_words.specs.Words.{arrangementCount};
+ghost use Rattle.model.specs.Rebuild.{begun, completed};
 ghost use Rattle.rebuild_words.specs.Gaps.{regionsOf, Gapped};
 use libc::STDOUT_FILENO;
 use model::Prices;
+use model::Walk;
 
-// The number of arrangements of a plan's regions. All legs are 0 metres long, and nothing has a price.
-fn count(v: usize, n: usize, plan: &[u32], regions: &[u32]) -> u64
+// What the walk over the arrangements of a plan's regions counts. All legs are 0 metres long, and nothing has a price.
+fn count(v: usize, n: usize, plan: &[u32], regions: &[u32]) -> Walk
     requires { ⌜ Gapped v n (now plan) (now regions) × (length (drained (decode v (now plan)) (regionsOf (now regions))) ≤ 7) ⌝ }
-    ensures { λ r. ⌜ r ≡ arrangementCount (length (regionsOf (now (regions .entry)))) (length (drained (decode v (now (plan .entry))) (regionsOf (now (regions .entry))))) ⌝ }
+    ensures { λ r. ⌜ r .begun ≡ begun (decode v (now (plan .entry))) (regionsOf (now (regions .entry))) ⌝ }
+    ensures { λ r. ⌜ r .completed ≡ completed (decode v (now (plan .entry))) (regionsOf (now (regions .entry))) ⌝ }
 {
     let legs = [0u32; 6400];
     let prices = Prices {
@@ -24,8 +27,48 @@ fn count(v: usize, n: usize, plan: &[u32], regions: &[u32]) -> u64
     };
     let mut best = [0u32; 80];
     let m = v + n;
-    let found = rebuild_arrange::arrange(&legs, v, n, prices, plan, regions, &mut best[..m]);
-    found.count
+    rebuild_arrange::arrange(&legs, v, n, prices, plan, regions, &mut best[..m])
+}
+
+// 7 stops in one gap.
+fn seven_in_one() -> Walk
+    ensures { λ r. ⌜ (r .begun ≡ 13700) × (r .completed ≡ 13700) ⌝ }
+{
+    count(1, 7, &[7, 0, 1, 2, 3, 4, 5, 6], &[0, 0, 7])
+}
+
+// 6 stops in two gaps.
+fn six_in_two() -> Walk
+    ensures { λ r. ⌜ (r .begun ≡ 1957) × (r .completed ≡ 11743) ⌝ }
+{
+    count(2, 6, &[6, 0, 0, 1, 2, 3, 4, 5], &[0, 0, 6, 1, 0, 0])
+}
+
+// No gap.
+fn in_none() -> Walk
+    ensures { λ r. ⌜ (r .begun ≡ 0) × (r .completed ≡ 0) ⌝ }
+{
+    count(2, 6, &[6, 0, 0, 1, 2, 3, 4, 5], &[])
+}
+
+// 6 stops on three vehicles.
+fn six_on_three() -> Walk
+    ensures { λ r. ⌜ (r .begun ≡ 1957) × (r .completed ≡ 42079) ⌝ }
+{
+    count(
+        3,
+        6,
+        &[6, 0, 0, 0, 1, 2, 3, 4, 5],
+        &[0, 0, 6, 1, 0, 0, 2, 0, 0],
+    )
+}
+
+// Prints both counts on a line.
+fn print_counts(walk: Walk) {
+    io::print_decimal(STDOUT_FILENO, walk.begun);
+    io::write_all(STDOUT_FILENO, b" ");
+    io::print_decimal(STDOUT_FILENO, walk.completed);
+    io::write_all(STDOUT_FILENO, b"\n");
 }
 
 // The first candidate of the pair.
@@ -58,25 +101,9 @@ fn check_rows() {
 }
 
 fn main() {
-    io::print_decimal(
-        STDOUT_FILENO,
-        count(1, 7, &[7, 0, 1, 2, 3, 4, 5, 6], &[0, 0, 7]),
-    );
-    io::write_all(STDOUT_FILENO, b"\n");
-    io::print_decimal(
-        STDOUT_FILENO,
-        count(2, 6, &[6, 0, 0, 1, 2, 3, 4, 5], &[0, 0, 6, 1, 0, 0]),
-    );
-    io::write_all(STDOUT_FILENO, b"\n");
-    io::print_decimal(
-        STDOUT_FILENO,
-        count(
-            3,
-            6,
-            &[6, 0, 0, 0, 1, 2, 3, 4, 5],
-            &[0, 0, 6, 1, 0, 0, 2, 0, 0],
-        ),
-    );
-    io::write_all(STDOUT_FILENO, b"\n");
+    print_counts(seven_in_one());
+    print_counts(six_in_two());
+    print_counts(in_none());
+    print_counts(six_on_three());
     check_rows();
 }

@@ -6,11 +6,11 @@ use Rattle.model.specs.Cost.{cost}
 use Rattle.model.specs.Nearest.{neighbours, startPlan}
 use Rattle.model.specs.TwoOpt.{intra, inter, twoOpt, twoOptPass}
 use Rattle.model.specs.Region.{regions}
-use Rattle.model.specs.Rebuild.{better, rebuild, exhaustive, pruned}
+use Rattle.model.specs.Rebuild.{better, rebuild, begun, completed, exhaustive, pruned}
 use Rattle.model.specs.Settle.{averaged, settles}
 use Rattle.model.specs.Run.{rounds, roundFrom}
 use Rattle.model.specs.Refusals.{refusal, badVehicles, badStops, badTable, badLength, badDraws, badLocations, badDistances, badPrices, badSmoothing, badLimit, badPlan, badLive, badGiven, badArrival, badCancellation, tooLarge}
-use Rattle.model.specs.Calls.{roundsIf, totals, made, planLeft, costAnswer, startAnswer, solveAnswer, saidByWeighed, saidByWritten, saidBySolved}
+use Rattle.model.specs.Calls.{roundsIf, totals, made, planLeft, begunBy, completedBy, costAnswer, rebuildAnswer, startAnswer, solveAnswer, saidByWeighed, saidByRebuilt, saidByWritten, saidBySolved}
 
 -- floats
 unfoldable pub floats : Unit {0}
@@ -24,5 +24,5 @@ conditions = tt
 
 -- everything
 unfoldable pub computed : Unit {0}
-unfolding floats conditions entry encode decode cost neighbours startPlan intra inter twoOpt twoOptPass regions better rebuild exhaustive pruned averaged settles rounds roundFrom refusal roundsIf totals made planLeft costAnswer startAnswer solveAnswer saidByWeighed saidByWritten saidBySolved
+unfolding floats conditions entry encode decode cost neighbours startPlan intra inter twoOpt twoOptPass regions better rebuild begun completed exhaustive pruned averaged settles rounds roundFrom refusal roundsIf totals made planLeft begunBy completedBy costAnswer rebuildAnswer startAnswer solveAnswer saidByWeighed saidByRebuilt saidByWritten saidBySolved
 computed = tt

@@ -10,6 +10,7 @@ pub mod Order
 pub mod Choice
 pub mod Regions
 pub mod Arrangements
+pub mod Fillings
 pub mod Rebuilds
 pub mod Exact
 pub mod Sufficient

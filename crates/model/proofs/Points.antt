@@ -7,15 +7,15 @@ use lib.ListN.{replicate}
 use Rattle.model.specs.Lists.{upFrom}
 use Rattle.model.specs.Whole.{whole, amount}
 use Rattle.model.specs.Job.{Job, jobOf}
-use Rattle.model.specs.Plan.{Plan}
+use Rattle.model.specs.Plan.{Plan, unused}
 use Rattle.model.specs.Nearest.{neighbours, startPlan}
 use Rattle.model.specs.TwoOpt.{twoOpt}
 use Rattle.model.specs.Region.{regions}
-use Rattle.model.specs.Rebuild.{rebuild, exhaustive, pruned}
+use Rattle.model.specs.Rebuild.{rebuild, begun, completed, exhaustive, pruned}
 use Rattle.model.specs.Settle.{averaged, settles, noAverages}
 use Rattle.model.specs.Run.{Task, roundFrom, startState}
 use Rattle.model.specs.Refusals.{Weigh, TwoOpt, asking, refusal}
-use Rattle.model.specs.Calls.{planLeft}
+use Rattle.model.specs.Calls.{planLeft, rebuildAnswer, saidByRebuilt}
 use Rattle.model.specs.Sums.{jobA}
 use Rattle.model.proofs.Computed.{computed}
 
@@ -104,6 +104,33 @@ sizeThree = refl
 pub unplacedPick : regions twoTens (20 ∷ 5 ∷ []) ≡ (record { vehicle = 0; from = 2; to = 8 } ∷ [])
 unfolding computed
 unplacedPick = refl
+
+-- ---- what the walk of a rebuild counts
+
+-- six stops in two regions
+pub sixInTwo : (begun twoTens (regions twoTens (15 ∷ 5 ∷ [])) ≡ 1957) × (completed twoTens (regions twoTens (15 ∷ 5 ∷ [])) ≡ 11743)
+unfolding computed
+sixInTwo = (refl, refl)
+
+-- seven stops in one
+pub sevenInOne : (begun twoTens (regions twoTens (5 ∷ [])) ≡ 13700) × (completed twoTens (regions twoTens (5 ∷ [])) ≡ 13700)
+unfolding computed
+sevenInOne = (refl, refl)
+
+-- a stop on each of two routes: both are arranged in both regions
+pub oneAndOne : saidByRebuilt (rebuildAnswer (asking (level 2 2) (1 ∷ 1 ∷ 0 ∷ 1 ∷ []) (0 ∷ 1 ∷ []))) ≡ record { number = 0; values = 0 ∷ 5 ∷ 11 ∷ [] }
+unfolding computed
+oneAndOne = refl
+
+-- no pick placed: nothing is begun and nothing completed
+pub noPickPlaced : saidByRebuilt (rebuildAnswer (asking (jobA 1 0) (0 ∷ unused ∷ unused ∷ []) (1 ∷ 0 ∷ []))) ≡ record { number = 0; values = 200 ∷ 0 ∷ 0 ∷ [] }
+unfolding computed
+noPickPlaced = refl
+
+-- refused: no values
+pub rebuildRefused : saidByRebuilt (rebuildAnswer (asking (level 2 2) (1 ∷ 1 ∷ 0 ∷ 1 ∷ []) (0 ∷ 0 ∷ []))) ≡ record { number = 12; values = [] }
+unfolding computed
+rebuildRefused = refl
 
 -- ---- draws
 

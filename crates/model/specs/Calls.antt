@@ -9,6 +9,8 @@ use lib.ListN.{length, getD, replicate}
 use Rattle.model.specs.declared.Totals.{Totals}
 use Rattle.model.specs.declared.Weighed.{Weighed}
 use Rattle.model.specs.declared.Weighed.the-variants as W
+use Rattle.model.specs.declared.Rebuilt.{Rebuilt}
+use Rattle.model.specs.declared.Rebuilt.the-variants as B
 use Rattle.model.specs.declared.Written.{Written}
 use Rattle.model.specs.declared.Written.the-variants as D
 use Rattle.model.specs.declared.Solved.{Solved}
@@ -27,7 +29,8 @@ use Rattle.model.specs.Plan.{Plan, encode, decode}
 use Rattle.model.specs.Cost.{cost}
 use Rattle.model.specs.Nearest.{startPlan}
 use Rattle.model.specs.TwoOpt.{twoOpt}
-use Rattle.model.specs.Rebuild.{rebuild, exhaustive, pruned}
+use Rattle.model.specs.Region.{regions}
+use Rattle.model.specs.Rebuild.{rebuild, begun, completed, exhaustive, pruned}
 use Rattle.model.specs.Run.{Task, taskFor, State, Round, startState, rounds, lastState, ends}
 use Rattle.model.specs.StopSet.{including, excluding}
 use Rattle.model.specs.Live.{liveCost, arrived, cancelled}
@@ -137,6 +140,11 @@ abbrev pub weighed : ℕ → ℕ → Weighed
 weighed zero c = W.Cost (whole c)
 weighed (suc k) c = W.Refused (suc k)
 
+-- the cost, the fillings begun, the arrangements completed
+abbrev pub rebuilt : ℕ → ℕ → ℕ → ℕ → Rebuilt
+rebuilt zero c b m = B.Walked (record { cost = whole c; begun = b; completed = m })
+rebuilt (suc k) c b m = B.Refused (suc k)
+
 abbrev pub written : ℕ → Written
 written zero = D.Done
 written (suc k) = D.Refused (suc k)
@@ -161,9 +169,20 @@ abbrev pub raised : ℕ → ℕ → Raised
 raised zero x = R.Rise x
 raised (suc k) x = R.Refused (suc k)
 
--- of weigh, two_opt, rebuild, exhaustive and pruned: the cost of the plan that is left
+-- of weigh, two_opt, exhaustive and pruned: the cost of the plan that is left
 unfoldable pub costAnswer : Call → Arguments → Weighed
 costAnswer c A = weighed (refusal c A) (cost (A .job) (made c A))
+
+-- what the walk of a rebuild counts, in the plan that was lent and the regions around the given stops
+unfoldable pub begunBy : Arguments → ℕ
+begunBy A = begun (lentPlan A) (regions (lentPlan A) (A .given))
+
+unfoldable pub completedBy : Arguments → ℕ
+completedBy A = completed (lentPlan A) (regions (lentPlan A) (A .given))
+
+-- of rebuild: the cost of the plan that is left, and both counts
+unfoldable pub rebuildAnswer : Arguments → Rebuilt
+rebuildAnswer A = rebuilt (refusal Rebuild A) (cost (A .job) (made Rebuild A)) (begunBy A) (completedBy A)
 
 -- of start_plan
 unfoldable pub startAnswer : Arguments → Written
@@ -198,6 +217,11 @@ pub record Said : Type 0 where
 unfoldable pub saidByWeighed : Weighed → Said
 saidByWeighed (W.Refused k) = record { number = k; values = [] }
 saidByWeighed (W.Cost c) = record { number = 0; values = amount c ∷ [] }
+
+-- the cost, the fillings begun, the arrangements completed
+unfoldable pub saidByRebuilt : Rebuilt → Said
+saidByRebuilt (B.Refused k) = record { number = k; values = [] }
+saidByRebuilt (B.Walked w) = record { number = 0; values = amount (w .cost) ∷ w .begun ∷ w .completed ∷ [] }
 
 unfoldable pub saidByWritten : Written → Said
 saidByWritten (D.Refused k) = record { number = k; values = [] }
@@ -244,6 +268,9 @@ saying (suc k) values = record { number = suc k; values = [] }
 unfoldable pub costSaid : Call → Arguments → Said
 costSaid c A = saying (refusal c A) (cost (A .job) (made c A) ∷ [])
 
+unfoldable pub rebuildSaid : Arguments → Said
+rebuildSaid A = saying (refusal Rebuild A) (cost (A .job) (made Rebuild A) ∷ begunBy A ∷ completedBy A ∷ [])
+
 unfoldable pub startSaid : Arguments → Said
 startSaid A = saying (refusal StartPlan A) []
 
@@ -275,11 +302,17 @@ solveSaid A = let T = taskOf A in saying (refusal Solve A) (runValues T (roundsO
 
 -- ---- what a call promises: its answer, the number and values that this is, and the lent plan at exit (`solve` promises more: see planner)
 
--- weigh, two_opt, rebuild, exhaustive and pruned
+-- weigh, two_opt, exhaustive and pruned
 pub record Weighs (c : Call) (A : Arguments) (r : Weighed) (left : List ℕ) : Type 0 where
   pub answer : r ≡ costAnswer c A
   pub said : saidByWeighed r ≡ costSaid c A
   pub plan : left ≡ planLeft c A
+
+-- rebuild
+pub record Rebuilds (A : Arguments) (r : Rebuilt) (left : List ℕ) : Type 0 where
+  pub answer : r ≡ rebuildAnswer A
+  pub said : saidByRebuilt r ≡ rebuildSaid A
+  pub plan : left ≡ planLeft Rebuild A
 
 -- start_plan
 pub record Writes (A : Arguments) (r : Written) (left : List ℕ) : Type 0 where

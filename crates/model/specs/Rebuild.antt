@@ -1,6 +1,6 @@
 -- Specification, 7, the rebuild and both solvers for small jobs: every arrangement of some stops in some gaps of a plan, and the one that is kept.
 use mathlib.Core.Path.{_≡_}
-use Prim.Native.Nat.{ℕ, zero, suc, _≤_}
+use Prim.Native.Nat.{ℕ, zero, suc, _+_, _*_, _≤_}
 use mathlib.Core.Bool.{Bool, cond, _&&_, _||_}
 use mathlib.Core.List.{List, [], _∷_, _++_, map}
 use lib.Dec.{eqb, ltb}
@@ -54,6 +54,32 @@ arrangements P gs = map (replaced P gs) (fillings (length gs) (drained P gs))
 unfoldable pub rebuild : Job → Plan → List ℕ → Plan
 unfolding regions arrangements
 rebuild J P picks = choose J P (arrangements P (regions P picks))
+
+-- ---- what the walk of a rebuild counts
+
+-- the fillings of the first region: every sequence of some of the drained stops. No region: none
+unfoldable pub firstFillings : Plan → List Region → List (List ℕ)
+firstFillings P [] = []
+firstFillings P (g ∷ gs) = let all = drained P (g ∷ gs) in map (λ x. x .0) (sequences (length all) all)
+
+-- how many of them are begun
+unfoldable pub begun : Plan → List Region → ℕ
+unfolding firstFillings
+begun P gs = length (firstFillings P gs)
+
+-- how many arrangements are completed. No region: none
+unfoldable pub completed : Plan → List Region → ℕ
+unfolding arrangements
+completed P [] = 0
+completed P (g ∷ gs) = length (arrangements P (g ∷ gs))
+
+-- the number of arrangements of m stops in g gaps
+abbrev pub arrangementCount : ℕ → ℕ → ℕ
+arrangementCount zero m = 1
+arrangementCount (suc g) zero = 1
+arrangementCount (suc g) (suc m) = arrangementCount g (suc m) + suc m * arrangementCount (suc g) m
+
+-- ---- an arrangement by itself
 
 -- What an arrangement is, said without a list of them: for each region a sequence of the stops that the regions drain, none of them twice.
 pub record Arrangement (P : Plan) (gs : List Region) (X : Plan) : Type 0 where

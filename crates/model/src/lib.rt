@@ -43,6 +43,20 @@ pub enum Weighed {
     Cost(f64),
 }
 
+// What the walk of a rebuild comes to: the cost of the best plan, how many fillings of the first region it began, and how many arrangements
+// it completed.
+pub struct Walk {
+    pub cost: f64,
+    pub begun: u64,
+    pub completed: u64,
+}
+
+// The answer of a rebuild.
+pub enum Rebuilt {
+    Refused(u32),
+    Walked(Walk),
+}
+
 // The answer of a call that only writes a plan.
 pub enum Written {
     Refused(u32),

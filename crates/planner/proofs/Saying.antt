@@ -7,6 +7,9 @@ use lib.Ieee.{Float}
 use Rattle.model.specs.declared.Totals.{Totals}
 use Rattle.model.specs.declared.Weighed.{Weighed}
 use Rattle.model.specs.declared.Weighed.the-variants as W
+use Rattle.model.specs.declared.Walk.{Walk}
+use Rattle.model.specs.declared.Rebuilt.{Rebuilt}
+use Rattle.model.specs.declared.Rebuilt.the-variants as B
 use Rattle.model.specs.declared.Written.{Written}
 use Rattle.model.specs.declared.Written.the-variants as D
 use Rattle.model.specs.declared.Solved.{Solved}
@@ -16,8 +19,8 @@ use Rattle.model.specs.Job.{stopCount}
 use Rattle.model.specs.Plan.{encode}
 use Rattle.model.specs.Cost.{cost}
 use Rattle.model.specs.Nearest.{startPlan}
-use Rattle.model.specs.Refusals.{Arguments, Call, StartPlan, Solve, refusal}
-use Rattle.model.specs.Calls.{taskOf, roundsOf, finalState, totals, made, leftBy, planLeft, weighed, written, solved, costAnswer, startAnswer, solveAnswer, saidByWeighed, saidByWritten, saidBySolved, saying, runValues, costSaid, startSaid, solveSaid, Weighs, Writes}
+use Rattle.model.specs.Refusals.{Arguments, Call, StartPlan, Rebuild, Solve, refusal}
+use Rattle.model.specs.Calls.{taskOf, roundsOf, finalState, totals, made, leftBy, planLeft, weighed, rebuilt, written, solved, begunBy, completedBy, costAnswer, rebuildAnswer, startAnswer, solveAnswer, saidByWeighed, saidByRebuilt, saidByWritten, saidBySolved, saying, runValues, costSaid, rebuildSaid, startSaid, solveSaid, Weighs, Rebuilds, Writes}
 use Rattle.whole.proofs.Laws.{amount-is}
 use Rattle.run_promise.proofs.Theorem.{promise}
 use Rattle.run_promise.proofs.Left.{start-formed, formed-exact, final-formed}
@@ -45,6 +48,39 @@ module _ (c : Call) (A : Arguments) (all : countsAll c ≡ true) where
   pub weighs-accepted : (f : Float) (left : List ℕ) → refusal c A ≡ 0 → f ≡ whole (cost (A .job) (made c A))
       → left ≡ encode (stopCount (A .job)) (made c A) → Weighs c A (W.Cost f) left
   weighs-accepted f left e h k = weighs (W.Cost f) left (accepted c A f (sym e) h) (left-new c A left (sym e) k)
+
+-- ---- a rebuild
+
+some-rebuilt : (x k b m : ℕ) → (x ≡ 0 → ⊥) → B.Refused x ≡ rebuilt x k b m
+some-rebuilt zero k b m h = absurd (h refl)
+some-rebuilt (suc x) k b m h = refl
+
+some-walked : (w : Walk) (k b m : ℕ) → w .cost ≡ whole k → w .begun ≡ b → w .completed ≡ m → B.Walked w ≡ rebuilt 0 k b m
+some-walked w k b m c e f = let s : w ≡ record { cost = whole k; begun = b; completed = m } = rw (← c, ← e, ← f) in ap B.Walked s
+
+said-rebuilt : (x k b m : ℕ) → (x ≡ 0 → k ≤ exact) → saidByRebuilt (rebuilt x k b m) ≡ saying x (k ∷ b ∷ m ∷ [])
+unfolding saidByRebuilt
+said-rebuilt zero k b m h = ap (λ n. saying 0 (n ∷ b ∷ m ∷ [])) (amount-is (whole k) k (h refl) refl)
+said-rebuilt (suc x) k b m h = refl
+
+module _ (A : Arguments) where
+  -- what the walk answers, with the number of the refusal
+  abbrev numbered : ℕ → Rebuilt
+  numbered x = rebuilt x (cost (A .job) (made Rebuild A)) (begunBy A) (completedBy A)
+
+  rebuilds : (r : Rebuilt) (left : List ℕ) → r ≡ numbered (refusal Rebuild A) → left ≡ planLeft Rebuild A → Rebuilds A r left
+  unfolding rebuildAnswer rebuildSaid
+  rebuilds r left h k =
+      record { answer = h; said = ap saidByRebuilt h ∙ said-rebuilt (refusal Rebuild A) _ _ _ (λ e. made-exact Rebuild A e refl); plan = k }
+
+  pub rebuilds-refused : (x : ℕ) → x ≡ refusal Rebuild A → (x ≡ 0 → ⊥) → Rebuilds A (B.Refused x) (A .plan)
+  rebuilds-refused x e h =
+      rebuilds (B.Refused x) (A .plan) (some-rebuilt x _ _ _ h ∙ ap numbered e) (left-alone Rebuild A x e h)
+
+  pub rebuilds-accepted : (w : Walk) (left : List ℕ) → refusal Rebuild A ≡ 0 → w .cost ≡ whole (cost (A .job) (made Rebuild A))
+      → w .begun ≡ begunBy A → w .completed ≡ completedBy A → left ≡ encode (stopCount (A .job)) (made Rebuild A) → Rebuilds A (B.Walked w) left
+  rebuilds-accepted w left e c b m k =
+      rebuilds (B.Walked w) left (some-walked w _ _ _ c b m ∙ ap numbered (sym e)) (left-new Rebuild A left (sym e) k)
 
 -- ---- a written plan
 

@@ -3,10 +3,11 @@
 // crates of their own, and are passed on.
 ghost use mathlib.Core.List.{[], _∷_};
 ghost use Rattle.model.specs.Job.{jobOf};
-ghost use Rattle.model.specs.Refusals.{asking, Weigh, TwoOpt, Rebuild, Exhaustive, Pruned, unpriced, running};
-ghost use Rattle.model.specs.Calls.{Weighs, Writes};
+ghost use Rattle.model.specs.Refusals.{asking, Weigh, TwoOpt, Exhaustive, Pruned, unpriced, running};
+ghost use Rattle.model.specs.Calls.{Weighs, Rebuilds, Writes};
 ghost use Rattle.planner.specs.Kept.{Solves};
 use model::Prices;
+use model::Rebuilt;
 use model::Solved;
 use model::Weighed;
 use model::Written;
@@ -92,7 +93,7 @@ pub fn two_opt(
     Weighed::Cost(delivery::cost(&legs, v, n, prices, plan))
 }
 
-// Rebuilds a plan around one or two stops, and weighs it.
+// Rebuilds a plan around one or two stops, weighs it, and tells what the walk counts.
 pub fn rebuild(
     vehicles: &[u32],
     stops: &[u32],
@@ -101,8 +102,8 @@ pub fn rebuild(
     prices: Prices,
     plan: &mut [u32],
     given: &[u32],
-) -> Weighed
-    ensures { λ r. ⌜ Weighs Rebuild (asking (jobOf (now (vehicles .entry)) (now (stops .entry)) locations (now (distances .entry)) prices) (now (plan .entry)) (now (given .entry))) r (now (plan .exit)) ⌝ }
+) -> Rebuilt
+    ensures { λ r. ⌜ Rebuilds (asking (jobOf (now (vehicles .entry)) (now (stops .entry)) locations (now (distances .entry)) prices) (now (plan .entry)) (now (given .entry))) r (now (plan .exit)) ⌝ }
 {
     let refused = call_refusals::of_rebuild(
         vehicles,
@@ -114,12 +115,12 @@ pub fn rebuild(
         given,
     );
     if refused != 0 {
-        return Weighed::Refused(refused);
+        return Rebuilt::Refused(refused);
     }
     let mut legs = [0u32; 6400];
     distance::leg_table(vehicles, stops, locations, distances, &mut legs);
     let v = vehicles.len() / 2;
-    Weighed::Cost(rebuild::rebuild(&legs, v, stops.len(), prices, plan, given))
+    Rebuilt::Walked(rebuild::rebuild(&legs, v, stops.len(), prices, plan, given))
 }
 
 // Writes the plan that the exhaustive solver chooses, and weighs it.

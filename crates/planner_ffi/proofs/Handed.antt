@@ -9,6 +9,9 @@ use mir.Val.{boolByte}
 use Rattle.model.specs.declared.Totals.{Totals}
 use Rattle.model.specs.declared.Weighed.{Weighed}
 use Rattle.model.specs.declared.Weighed.the-variants as W
+use Rattle.model.specs.declared.Walk.{Walk}
+use Rattle.model.specs.declared.Rebuilt.{Rebuilt}
+use Rattle.model.specs.declared.Rebuilt.the-variants as B
 use Rattle.model.specs.declared.Written.{Written}
 use Rattle.model.specs.declared.Written.the-variants as D
 use Rattle.model.specs.declared.Solved.{Solved}
@@ -25,10 +28,10 @@ use Rattle.model.specs.declared.Raised.the-variants as R
 use Rattle.model.specs.Whole.{amount}
 use Rattle.model.specs.Cost.{cost}
 use Rattle.model.specs.Live.{liveCost}
-use Rattle.model.specs.Refusals.{Arguments, Call, StartPlan, Solve, View, MoveStop, Roadworks, refusal}
-use Rattle.model.specs.Calls.{taskOf, totals, made, newLive, weighed, written, solved, changed, viewed, carried, raised, costAnswer, startAnswer, solveAnswer, liveAnswer, viewAnswer, moveAnswer, roadAnswer, saidByWeighed, saidByWritten, saidBySolved, saidByChanged, saidByViewed, saidByMoved, saidByRaised, saying, signedSaying, costSaid, startSaid, solveSaid, liveSaid, viewSaid, moveSaid, roadSaid, Weighs, Writes, Changes, Views, Moves, Raises}
+use Rattle.model.specs.Refusals.{Arguments, Call, StartPlan, Rebuild, Solve, View, MoveStop, Roadworks, refusal}
+use Rattle.model.specs.Calls.{taskOf, totals, made, newLive, begunBy, completedBy, weighed, rebuilt, written, solved, changed, viewed, carried, raised, costAnswer, rebuildAnswer, startAnswer, solveAnswer, liveAnswer, viewAnswer, moveAnswer, roadAnswer, saidByWeighed, saidByRebuilt, saidByWritten, saidBySolved, saidByChanged, saidByViewed, saidByMoved, saidByRaised, saying, signedSaying, costSaid, rebuildSaid, startSaid, solveSaid, liveSaid, viewSaid, moveSaid, roadSaid, Weighs, Rebuilds, Writes, Changes, Views, Moves, Raises}
 use Rattle.planner.specs.Kept.{Keeps, Solves}
-use Rattle.planner_ffi.specs.Border.{costLeft, liveLeft, liveCostLeft, unplacedLeft, changeLeft, riseLeft, Results, results, resultsLeft, valuesIn, HandsCost, HandsPlan, HandsChange, HandsView, HandsMove, HandsRise, HandsRun}
+use Rattle.planner_ffi.specs.Border.{costLeft, walk, walkLeft, liveLeft, liveCostLeft, unplacedLeft, changeLeft, riseLeft, Results, results, resultsLeft, valuesIn, HandsCost, HandsRebuilt, HandsPlan, HandsChange, HandsView, HandsMove, HandsRise, HandsRun}
 
 -- ---- a cost
 
@@ -56,6 +59,38 @@ module _ (c : Call) (A : Arguments) (a : Weighed) (left : List ℕ) (w : Weighs 
       record {
         said = some-cost (refusal c A) (cost (A .job) (made c A)) r old new (ap saidByWeighed (sym (w .answer)) ∙ w .said) n l;
         cost = l;
+        plan = w .plan;
+      }
+
+-- ---- a rebuild
+
+module _ (a : Rebuilt) where
+  pub refused-rebuilt : (k : ℕ) (old : Walk) → a ≡ B.Refused k → (k ≡ saidByRebuilt a .number) × (old ≡ walkLeft a old)
+  unfolding saidByRebuilt walkLeft
+  refused-rebuilt k old e = (ap (λ (x : Rebuilt). saidByRebuilt x .number) (sym e), ap (λ (x : Rebuilt). walkLeft x old) (sym e))
+
+  pub accepted-rebuilt : (w old : Walk) → a ≡ B.Walked w → (0 ≡ saidByRebuilt a .number) × (walk (w .cost) (w .begun) (w .completed) ≡ walkLeft a old)
+  unfolding saidByRebuilt walkLeft
+  accepted-rebuilt w old e = (ap (λ (x : Rebuilt). saidByRebuilt x .number) (sym e), ap (λ (x : Rebuilt). walkLeft x old) (sym e))
+
+some-rebuilt : (x k b m r : ℕ) (old new : Walk) → saidByRebuilt (rebuilt x k b m) ≡ saying x (k ∷ b ∷ m ∷ [])
+    → r ≡ saidByRebuilt (rebuilt x k b m) .number → new ≡ walkLeft (rebuilt x k b m) old
+    → saying r (amount (new .cost) ∷ new .begun ∷ new .completed ∷ []) ≡ saying x (k ∷ b ∷ m ∷ [])
+unfolding saidByRebuilt walkLeft
+some-rebuilt zero k b m r old new w h e = rw (h, e) w
+some-rebuilt (suc x) k b m r old new w h e = rw h
+
+module _ (A : Arguments) (a : Rebuilt) (left : List ℕ) (w : Rebuilds A a left) where
+  pub hands-rebuilt : (r : ℕ) (old new : Walk) → r ≡ saidByRebuilt a .number → new ≡ walkLeft a old → HandsRebuilt A r old new left
+  unfolding rebuildAnswer rebuildSaid
+  hands-rebuilt r old new h e =
+      let n : r ≡ saidByRebuilt (rebuildAnswer A) .number = h ∙ ap (λ (x : Rebuilt). saidByRebuilt x .number) (w .answer) in
+      let l : new ≡ walkLeft (rebuildAnswer A) old = e ∙ ap (λ (x : Rebuilt). walkLeft x old) (w .answer) in
+      record {
+        said =
+            some-rebuilt (refusal Rebuild A) (cost (A .job) (made Rebuild A)) (begunBy A) (completedBy A) r old new
+            (ap saidByRebuilt (sym (w .answer)) ∙ w .said) n l;
+        walk = l;
         plan = w .plan;
       }
 

@@ -8,6 +8,9 @@ use lib.IntN.{ℤ}
 use Rattle.model.specs.declared.Prices.{Prices}
 use Rattle.model.specs.declared.Weighed.{Weighed}
 use Rattle.model.specs.declared.Weighed.the-variants as W
+use Rattle.model.specs.declared.Walk.{Walk}
+use Rattle.model.specs.declared.Rebuilt.{Rebuilt}
+use Rattle.model.specs.declared.Rebuilt.the-variants as B
 use Rattle.model.specs.declared.Solved.{Solved}
 use Rattle.model.specs.declared.Solved.the-variants as S
 use Rattle.model.specs.declared.Changed.{Changed}
@@ -19,8 +22,8 @@ use Rattle.model.specs.declared.Moved.the-variants as M
 use Rattle.model.specs.declared.Raised.{Raised}
 use Rattle.model.specs.declared.Raised.the-variants as R
 use Rattle.model.specs.Whole.{amount}
-use Rattle.model.specs.Refusals.{Arguments, Call, StartPlan, Solve, MoveStop}
-use Rattle.model.specs.Calls.{costAnswer, solveAnswer, liveAnswer, viewAnswer, moveAnswer, roadAnswer, planLeft, seenLeft, saying, signedSaying, costSaid, startSaid, solveSaid, liveSaid, viewSaid, moveSaid, roadSaid}
+use Rattle.model.specs.Refusals.{Arguments, Call, StartPlan, Rebuild, Solve, MoveStop}
+use Rattle.model.specs.Calls.{costAnswer, rebuildAnswer, solveAnswer, liveAnswer, viewAnswer, moveAnswer, roadAnswer, planLeft, seenLeft, saying, signedSaying, costSaid, rebuildSaid, startSaid, solveSaid, liveSaid, viewSaid, moveSaid, roadSaid}
 use Rattle.planner.specs.Kept.{Keeps}
 
 -- prices cross the border as three numbers
@@ -29,10 +32,18 @@ priced linear quadratic missed = record { linear = linear; quadratic = quadratic
 
 -- ---- the numbers lent for results: the answer's, or what was there, where the call is refused
 
--- of weigh, two_opt, rebuild, exhaustive and pruned
+-- of weigh, two_opt, exhaustive and pruned
 unfoldable pub costLeft : Weighed → Float → Float
 costLeft (W.Refused k) old = old
 costLeft (W.Cost c) old = c
+
+-- of rebuild: the cost, the fillings begun, the arrangements completed
+abbrev pub walk : Float → ℕ → ℕ → Walk
+walk cost begun completed = record { cost = cost; begun = begun; completed = completed }
+
+unfoldable pub walkLeft : Rebuilt → Walk → Walk
+walkLeft (B.Refused k) old = old
+walkLeft (B.Walked w) old = w
 
 -- of arrive and cancel: the live set, the cost
 unfoldable pub liveLeft : Changed → ℕ → ℕ
@@ -85,6 +96,11 @@ pub record HandsCost (c : Call) (A : Arguments) (r : ℕ) (old new : Float) (lef
   pub said : saying r (amount new ∷ []) ≡ costSaid c A
   pub cost : new ≡ costLeft (costAnswer c A) old
   pub plan : left ≡ planLeft c A
+
+pub record HandsRebuilt (A : Arguments) (r : ℕ) (old new : Walk) (left : List ℕ) : Type 0 where
+  pub said : saying r (amount (new .cost) ∷ new .begun ∷ new .completed ∷ []) ≡ rebuildSaid A
+  pub walk : new ≡ walkLeft (rebuildAnswer A) old
+  pub plan : left ≡ planLeft Rebuild A
 
 pub record HandsPlan (A : Arguments) (r : ℕ) (left : List ℕ) : Type 0 where
   pub said : saying r [] ≡ startSaid A

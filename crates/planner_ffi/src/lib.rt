@@ -3,15 +3,16 @@
 ghost use mathlib.Core.Path.{_≡_};
 ghost use mathlib.Core.List.{[], _∷_};
 ghost use Rattle.model.specs.Job.{jobOf};
-ghost use Rattle.model.specs.Refusals.{asking, naming, looking, moving, lengthening, tableless, Weigh, TwoOpt, Rebuild, Exhaustive, Pruned, Arrive, Cancel, unpriced, running};
+ghost use Rattle.model.specs.Refusals.{asking, naming, looking, moving, lengthening, tableless, Weigh, TwoOpt, Exhaustive, Pruned, Arrive, Cancel, unpriced, running};
 ghost use Rattle.model.specs.Vans.{moveTo};
 ghost use Rattle.model.specs.Roads.{roadFrom};
-ghost use Rattle.model.specs.Calls.{saidByWeighed, saidBySolved, saidByChanged, saidByViewed, saidByMoved, saidByRaised};
-ghost use Rattle.planner_ffi.specs.Border.{priced, costLeft, results, resultsLeft, liveLeft, liveCostLeft, unplacedLeft, changeLeft, riseLeft, HandsCost, HandsPlan, HandsRun, HandsChange, HandsView, HandsMove, HandsRise};
+ghost use Rattle.model.specs.Calls.{saidByWeighed, saidByRebuilt, saidBySolved, saidByChanged, saidByViewed, saidByMoved, saidByRaised};
+ghost use Rattle.planner_ffi.specs.Border.{priced, costLeft, walk, walkLeft, results, resultsLeft, liveLeft, liveCostLeft, unplacedLeft, changeLeft, riseLeft, HandsCost, HandsRebuilt, HandsPlan, HandsRun, HandsChange, HandsView, HandsMove, HandsRise};
 use model::Changed;
 use model::Moved;
 use model::Prices;
 use model::Raised;
+use model::Rebuilt;
 use model::Solved;
 use model::Viewed;
 use model::Weighed;
@@ -26,6 +27,22 @@ fn hand_cost(answer: Weighed, cost: &mut f64) -> u32
         Weighed::Refused(number) => number,
         Weighed::Cost(c) => {
             *cost = c;
+            0
+        }
+    }
+}
+
+// The number, the cost and both counts of an answer.
+fn hand_rebuilt(answer: Rebuilt, cost: &mut f64, begun: &mut u64, completed: &mut u64) -> u32
+    ensures { λ r. ⌜ r ≡ saidByRebuilt answer .number ⌝ }
+    ensures { λ _. ⌜ walk (now (cost .exit)) (now (begun .exit)) (now (completed .exit)) ≡ walkLeft answer (walk (now (cost .entry)) (now (begun .entry)) (now (completed .entry))) ⌝ }
+{
+    match answer {
+        Rebuilt::Refused(number) => number,
+        Rebuilt::Walked(w) => {
+            *cost = w.cost;
+            *begun = w.begun;
+            *completed = w.completed;
             0
         }
     }
@@ -191,7 +208,7 @@ pub extern "C" fn planner_two_opt(
     hand_cost(answer, cost)
 }
 
-// Rebuilds a plan around one or two stops, and weighs it.
+// Rebuilds a plan around one or two stops, weighs it, and counts the fillings of the first region begun and the arrangements completed.
 #[no_mangle]
 pub extern "C" fn planner_rebuild(
     vehicles: &[u32],
@@ -204,8 +221,11 @@ pub extern "C" fn planner_rebuild(
     plan: &mut [u32],
     given: &[u32],
     cost: &mut f64,
+    begun: &mut u64,
+    completed: &mut u64,
 ) -> u32
-    ensures { λ r. ⌜ HandsCost Rebuild (asking (jobOf (now (vehicles .entry)) (now (stops .entry)) locations (now (distances .entry)) (priced linear quadratic missed)) (now (plan .entry)) (now (given .entry))) r (now (cost .entry)) (now (cost .exit)) (now (plan .exit)) ⌝ }
+    ensures { λ r. ⌜ HandsRebuilt (asking (jobOf (now (vehicles .entry)) (now (stops .entry)) locations (now (distances .entry)) (priced linear quadratic missed)) (now (plan .entry)) (now (given .entry))) r
+        (walk (now (cost .entry)) (now (begun .entry)) (now (completed .entry))) (walk (now (cost .exit)) (now (begun .exit)) (now (completed .exit))) (now (plan .exit)) ⌝ }
 {
     let prices = Prices {
         linear,
@@ -213,7 +233,7 @@ pub extern "C" fn planner_rebuild(
         missed,
     };
     let answer = planner::rebuild(vehicles, stops, locations, distances, prices, plan, given);
-    hand_cost(answer, cost)
+    hand_rebuilt(answer, cost, begun, completed)
 }
 
 // Writes the plan that the exhaustive solver chooses, and weighs it.

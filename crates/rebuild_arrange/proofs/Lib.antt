@@ -1,1 +1,6 @@
+pub mod Zeros
+pub mod Base
+pub mod Ends
+pub mod Others
+pub mod Tables
 pub mod Arranging

@@ -1,2 +1,3 @@
 -- What the contracts of this crate cite beside the definitions of `model`.
 pub mod Arranged
+pub mod Prepared

@@ -1,244 +1,149 @@
 // All arrangements of some stops in up to three gaps of a plan, and the best of them.
 ghost use mathlib.Core.Path.{_≡_};
 ghost use Prim.Native.Nat.{_+_, _<_};
-ghost use lib.ListN.{length, take};
-ghost use Rattle.model.specs.StopSet.{stopsOf};
+ghost use lib.ListN.{length};
+ghost use Rattle.model.specs.Whole.{whole};
 ghost use Rattle.model.specs.Plan.{decode};
-ghost use Rattle.rebuild_words.specs.Gaps.{regionsOf};
-ghost use Rattle.rebuild_words.specs.Words.{plansFrom, plansAt};
-ghost use Rattle.rebuild_choice.specs.Scores.{Walked};
-ghost use Rattle.rebuild_last_stops.specs.Walks.{Walkable};
-ghost use Rattle.rebuild_arrange.specs.Arranged.{Arrangeable, Begun, Arranged};
+ghost use Rattle.delivery.specs.Costs.{tableCost};
+ghost use Rattle.rebuild_arrange.specs.Arranged.{Arrangeable, Arranged};
+ghost use Rattle.rebuild_arrange.specs.Prepared.{Based, Endable, EndsOf, besideFirst, Addable, Tableable, Tells};
 use model::Prices;
-use rebuild_choice::Score;
-use rebuild_gaps::Stand;
+use model::Walk;
+use rebuild_frame::BEFORE_FIRST;
+use rebuild_walk::BEST;
+use rebuild_walk::CALLS;
+use rebuild_walk::MOST;
+use rebuild_ways::GAP;
+use rebuild_ways::USED;
 
-// Places each of the stops that are left at the end of gap q in turn, and calls the walk on those that are left then. Where at most two
-// are left then, that walk does not come back to this function: nearly all arrangements leave no more than two stops. The placements stay
-// as they were.
-fn spread(
+// What a plan that costs so much costs without the routes of its regions.
+fn base_of(
     legs: &[u32],
     v: usize,
     n: usize,
     prices: Prices,
     plan: &[u32],
     regions: &[u32],
-    gaps: &[u32],
-    all: u32,
-    left: u64,
-    q: usize,
-    stand: Stand,
-    codes: &mut [u32],
-    m: usize,
-    best: &mut [u32],
-    score: Score,
-) -> Score
-    requires { ⌜ Walkable (now legs) v n prices (now plan) (now regions) (now gaps) all left q stand (now codes) m (now best) score
-        (plansAt (decode v (now plan)) (regionsOf (now regions)) (take m (now codes)) (stopsOf left) q (stopsOf left)) ⌝ }
-    ensures { λ r. ⌜ Walked (now (legs .entry)) v n prices
-        (plansAt (decode v (now (plan .entry))) (regionsOf (now (regions .entry))) (take m (now (codes .entry))) (stopsOf left) q (stopsOf left))
-        (now (best .entry)) score (now (best .exit)) r ⌝ }
-    ensures { λ _. ⌜ now (codes .exit) ≡ now (codes .entry) ⌝ }
+    cost: f64,
+) -> f64
+    requires { ⌜ Arrangeable (now legs) v n prices (now plan) (now regions) ⌝ }
+    requires { ⌜ cost ≡ whole (tableCost (now legs) prices n (decode v (now plan))) ⌝ }
+    ensures { λ r. ⌜ Based (now (legs .entry)) v n prices (now (plan .entry)) (now (regions .entry)) r ⌝ }
 {
-    let few = stop_set::size(left);
-    let mut found = score;
-    let mut rest = left;
-    while rest != 0 {
-        let s = stop_set::lowest(rest);
-        rest = stop_set::without(rest, s);
-        let was = codes[m];
-        codes[m] = q as u32 * 64 + s;
-        let next = rebuild_gaps::step(legs, stand, s);
-        let fewer = stop_set::without(left, s);
-        let e = m + 1;
-        if few < 4 {
-            found = rebuild_last_stops::walk_two(
-                legs,
-                v,
-                n,
-                prices,
-                plan,
-                regions,
-                gaps,
-                all,
-                fewer,
-                q,
-                next,
-                codes,
-                e,
-                best,
-                found,
-            );
-            codes[m] = was;
+    let mut rest = cost;
+    let mut q = 0;
+    while 3 * q < regions.len() {
+        let region = rebuild_words::region_at(regions, q);
+        let route = solution::route(plan, v, n, region.vehicle);
+        let length = distance::route_length(legs, region.vehicle, route);
+        rest = rest - delivery::price(length, prices);
+        q += 1;
+    }
+    rest
+}
+
+// Where the legs of a table of ways begin (side 0) or end (side 1): at the drained stops, and at the places before or after the gaps.
+fn ends_of(frame: &[u32; 104], gaps: &[u32; 12], side: usize) -> [u32; 16]
+    requires { ⌜ Endable (now frame) (now gaps) side ⌝ }
+    ensures { λ r. ⌜ EndsOf (now (frame .entry)) (now (gaps .entry)) side r ⌝ }
+{
+    let mut ends = [0u32; 16];
+    let mut i = 1;
+    while i < USED {
+        if i < GAP {
+            ends[i] = frame[BEFORE_FIRST + i];
         } else {
-            found = walk(
-                legs,
-                v,
-                n,
-                prices,
-                plan,
-                regions,
-                gaps,
-                all,
-                fewer,
-                q,
-                next,
-                codes,
-                e,
-                best,
-                found,
-            );
-            codes[m] = was;
+            ends[i] = gaps[4 * (i - GAP) + side];
         }
+        i += 1;
     }
-    found
+    ends
 }
 
-// Meets the arrangement that the first m placements stand for, and then has each stop that is left placed in each gap from q on.
-fn walk(
+// What all but the first gap's route costs with p gaps empty and all of the m drained stops left.
+fn others_of(ways: &[f64; 272], p: usize, m: u32, prices: Prices) -> f64
+    requires { ⌜ Addable (now ways) p m prices ⌝ }
+    ensures { λ r. ⌜ r ≡ whole (besideFirst (now (ways .entry)) p m) ⌝ }
+{
+    let mut sum = rebuild_ways::base(ways) + delivery::missed_cost(m, prices);
+    let mut q = 1;
+    while q < p {
+        sum = sum + rebuild_ways::vacant(ways, q);
+        q += 1;
+    }
+    sum
+}
+
+// Fills the table of ways of a framed plan, which costs so much.
+fn table_ways(
     legs: &[u32],
     v: usize,
     n: usize,
     prices: Prices,
     plan: &[u32],
     regions: &[u32],
-    gaps: &[u32],
-    all: u32,
-    left: u64,
-    q: usize,
-    stand: Stand,
-    codes: &mut [u32],
-    m: usize,
-    best: &mut [u32],
-    score: Score,
-) -> Score
-    requires { ⌜ Walkable (now legs) v n prices (now plan) (now regions) (now gaps) all left q stand (now codes) m (now best) score
-        (plansFrom (decode v (now plan)) (regionsOf (now regions)) (take m (now codes)) (stopsOf left) q) ⌝ }
-    ensures { λ r. ⌜ Walked (now (legs .entry)) v n prices
-        (plansFrom (decode v (now (plan .entry))) (regionsOf (now (regions .entry))) (take m (now (codes .entry))) (stopsOf left) q)
-        (now (best .entry)) score (now (best .exit)) r ⌝ }
-    ensures { λ _. ⌜ now (codes .exit) ≡ now (codes .entry) ⌝ }
+    frame: &[u32; 104],
+    cost: f64,
+    ways: &mut [f64; 272],
+)
+    requires { ⌜ Tableable (now legs) v n prices (now plan) (now regions) (now frame) cost (now ways) ⌝ }
+    ensures { λ _. ⌜ Tells (now (legs .entry)) v n prices (now (frame .entry)) (now (ways .exit)) ⌝ }
 {
-    let unplaced = stop_set::size(left);
-    let met = rebuild_choice::meet(
+    let mut gaps = [0u32; 12];
+    rebuild_survey::survey(legs, plan, v, n, regions, &mut gaps);
+    let base = base_of(legs, v, n, prices, plan, regions, cost);
+    let starts = ends_of(frame, &gaps, 0);
+    let ends = ends_of(frame, &gaps, 1);
+    rebuild_ways::fill(
         legs,
-        v,
-        n,
         prices,
-        plan,
-        regions,
-        gaps,
-        all,
-        unplaced,
-        q,
-        stand,
-        &codes[..m],
-        best,
-        score,
+        &starts,
+        &ends,
+        &gaps,
+        regions.len() / 3,
+        base,
+        ways,
     );
-    let driving = met.driving;
-    let mut found = met.score;
-    let mut r = q;
-    while 3 * r < regions.len() {
-        let here = rebuild_gaps::resume(legs, gaps, q, r, prices, driving, stand);
-        found = spread(
-            legs,
-            v,
-            n,
-            prices,
-            plan,
-            regions,
-            gaps,
-            all,
-            left,
-            r,
-            here,
-            codes,
-            m,
-            best,
-            found,
-        );
-        r += 1;
-    }
-    found
 }
 
-// Measures the gaps, and returns the beginning of the first with all of them empty.
-fn begin(
+// Walks all arrangements of one region or more of a plan that costs so much, and writes the best.
+fn arrange_gaps(
     legs: &[u32],
     v: usize,
     n: usize,
     prices: Prices,
     plan: &[u32],
     regions: &[u32],
-    gaps: &mut [u32],
-    scratch: &mut [u32],
-) -> Stand
-    requires { ⌜ Arrangeable (now legs) v n prices (now plan) (now regions) ⌝ }
-    requires { ⌜ (0 < length (now regions)) × (length (now gaps) ≡ 12) × (length (now scratch) ≡ v + n) ⌝ }
-    ensures { λ r. ⌜ Begun (now (legs .entry)) v n prices (now (plan .entry)) (now (regions .entry)) (now (gaps .exit)) r ⌝ }
-{
-    rebuild_survey::survey(legs, plan, v, n, regions, gaps);
-    rebuild_words::compose(plan, v, n, regions, &regions[..0], scratch);
-    let driving = delivery::driving_cost(legs, v, n, prices, scratch);
-    rebuild_gaps::open(legs, gaps, 0, prices, driving)
-}
-
-// The walk from the empty word, in buffers that are lent for it. Where there is no region, the plan is its only arrangement.
-fn visit(
-    legs: &[u32],
-    v: usize,
-    n: usize,
-    prices: Prices,
-    plan: &[u32],
-    regions: &[u32],
-    gaps: &mut [u32],
-    codes: &mut [u32],
-    scratch: &mut [u32],
+    cost: f64,
     best: &mut [u32],
-) -> Score
-    requires { ⌜ Arrangeable (now legs) v n prices (now plan) (now regions) ⌝ }
-    requires { ⌜ (length (now gaps) ≡ 12) × (length (now codes) ≡ 7) × (length (now scratch) ≡ v + n) × (length (now best) ≡ v + n) ⌝ }
+) -> Walk
+    requires { ⌜ Arrangeable (now legs) v n prices (now plan) (now regions) × (0 < length (now regions)) ⌝ }
+    requires { ⌜ (cost ≡ whole (tableCost (now legs) prices n (decode v (now plan)))) × (length (now best) ≡ v + n) ⌝ }
     ensures { λ r. ⌜ Arranged (now (legs .entry)) v n prices (now (plan .entry)) (now (regions .entry)) (now (best .exit)) r ⌝ }
 {
-    pasting::copy_plan(plan, best);
-    let all = stop_set::size(solution::placed_set(plan, v, n));
-    let cost = delivery::cost(legs, v, n, prices, plan);
-    if regions.len() == 0 {
-        return Score {
-            cost,
-            placed: all,
-            count: 1,
-        };
+    let mut frame = [0u32; 104];
+    let own = rebuild_frame::fill(&mut frame, plan, v, n, regions);
+    let mut ways = [0.0; 272];
+    table_ways(legs, v, n, prices, plan, regions, &frame, cost, &mut ways);
+    let p = rebuild_frame::gaps(&frame);
+    let others = others_of(&ways, p, rebuild_frame::drained(&frame), prices);
+    let mut kept = [0u64; 6];
+    kept[BEST] = own;
+    kept[MOST] = rebuild_frame::placed(&frame) as u64;
+    let found = rebuild_walk::visit(&ways, &frame, &mut kept, others, cost);
+    let word = kept[BEST];
+    rebuild_frame::plan_of(&frame, word, best);
+    let begun = kept[CALLS];
+    let completed = kept[CALLS - 1 + p];
+    Walk {
+        cost: found,
+        begun,
+        completed,
     }
-    let stand = begin(legs, v, n, prices, plan, regions, gaps, scratch);
-    let left = rebuild_survey::drain(plan, v, n, regions);
-    let score = Score {
-        cost,
-        placed: all,
-        count: 0,
-    };
-    walk(
-        legs,
-        v,
-        n,
-        prices,
-        plan,
-        regions,
-        gaps,
-        all,
-        left,
-        0,
-        stand,
-        codes,
-        0,
-        best,
-        score,
-    )
 }
 
-// Writes the best arrangement of the stops of a plan's regions, and returns its cost, the number of stops that it places and
-// the number of arrangements. A region is three numbers: its vehicle, and where it begins and ends on that vehicle's route.
+// Writes the best arrangement of the stops of a plan's regions, and returns its cost, how many fillings of the first region were begun and
+// how many arrangements were completed. A region is three numbers: its vehicle, and where it begins and ends on that vehicle's route.
 pub fn arrange(
     legs: &[u32],
     v: usize,
@@ -247,26 +152,20 @@ pub fn arrange(
     plan: &[u32],
     regions: &[u32],
     best: &mut [u32],
-) -> Score
+) -> Walk
     requires { ⌜ Arrangeable (now legs) v n prices (now plan) (now regions) × (length (now best) ≡ v + n) ⌝ }
     ensures { λ r. ⌜ Arranged (now (legs .entry)) v n prices (now (plan .entry)) (now (regions .entry)) (now (best .exit)) r ⌝ }
 {
-    let mut gaps = [0u32; 12];
-    let mut codes = [0u32; 7];
-    let mut scratch = [0u32; 80];
-    let m = v + n;
-    visit(
-        legs,
-        v,
-        n,
-        prices,
-        plan,
-        regions,
-        &mut gaps,
-        &mut codes,
-        &mut scratch[..m],
-        best,
-    )
+    let cost = delivery::cost(legs, v, n, prices, plan);
+    if regions.len() == 0 {
+        pasting::copy_plan(plan, best);
+        return Walk {
+            cost,
+            begun: 0,
+            completed: 0,
+        };
+    }
+    arrange_gaps(legs, v, n, prices, plan, regions, cost, best)
 }
 
 // Writes the best arrangement of the stops of some regions over the plan that has them.
@@ -277,13 +176,13 @@ pub fn rearrange(
     prices: Prices,
     plan: &mut [u32],
     regions: &[u32],
-) -> Score
+) -> Walk
     requires { ⌜ Arrangeable (now legs) v n prices (now plan) (now regions) ⌝ }
     ensures { λ r. ⌜ Arranged (now (legs .entry)) v n prices (now (plan .entry)) (now (regions .entry)) (now (plan .exit)) r ⌝ }
 {
     let m = v + n;
     let mut best = [0u32; 80];
-    let score = arrange(legs, v, n, prices, plan, regions, &mut best[..m]);
+    let walk = arrange(legs, v, n, prices, plan, regions, &mut best[..m]);
     pasting::copy_plan(&best[..m], plan);
-    score
+    walk
 }

@@ -1,15 +1,12 @@
-// Surveys of gaps: what is known of each gap of a plan in advance, and the set of the stops that are taken out of them.
+// Surveys of gaps: what is known of each gap of a plan in advance.
 ghost use mathlib.Core.Path.{_≡_};
 ghost use Prim.Native.Nat.{_+_, _*_, _≤_, _<_};
 ghost use lib.ListN.{length};
 ghost use Rattle.model.specs.Legs.{LegTable};
-ghost use Rattle.model.specs.Plan.{decode};
-ghost use Rattle.model.specs.Region.{drained};
 ghost use Rattle.distance.specs.Ways.{Drivable};
-ghost use Rattle.rebuild_words.specs.Gaps.{regionsOf, Gapped};
+ghost use Rattle.rebuild_words.specs.Gaps.{Gapped};
 ghost use Rattle.rebuild_survey.specs.Ways.{Stepped, Measured};
 ghost use Rattle.rebuild_survey.specs.Surveys.{Stored, Surveyed, Unsurveyed};
-ghost use Rattle.rebuild_survey.specs.Sets.{Gathers, Alone};
 
 // A way from a place: its length, and the place where it ends.
 pub struct Way {
@@ -66,38 +63,6 @@ fn measure(legs: &[u32], vehicle: usize, route: &[u32], from: usize, to: usize) 
         head: head.length,
         rest: rest.length + distance::leg(legs, rest.last, own),
     }
-}
-
-// The set with the stops of a list put in, none of which it has.
-fn gather(set: u64, part: &[u32]) -> u64
-    requires { ⌜ Alone set (now part) ⌝ }
-    ensures { λ r. ⌜ Gathers set (now (part .entry)) r ⌝ }
-{
-    let mut all = set;
-    let mut i = 0;
-    while i < part.len() {
-        all = stop_set::with(all, part[i]);
-        i += 1;
-    }
-    all
-}
-
-// The set of the stops of all regions.
-pub fn drain(plan: &[u32], v: usize, n: usize, regions: &[u32]) -> u64
-    requires { ⌜ Gapped v n (now plan) (now regions) ⌝ }
-    ensures { λ r. ⌜ Gathers 0 (drained (decode v (now (plan .entry))) (regionsOf (now (regions .entry)))) r ⌝ }
-{
-    let mut set: u64 = 0;
-    let mut q = 0;
-    while 3 * q < regions.len() {
-        let region = rebuild_words::region_at(regions, q);
-        let from = region.from;
-        let to = region.to;
-        let route = solution::route(plan, v, n, region.vehicle);
-        set = gather(set, &route[from..to]);
-        q += 1;
-    }
-    set
 }
 
 // Writes what is known of gap q.

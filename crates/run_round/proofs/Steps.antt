@@ -10,6 +10,7 @@ use lib.Dec.{ltb}
 use lib.Ieee.{Float, lt}
 use lib.ListN.{length, take, drop}
 use Rattle.model.specs.declared.Prices.{Prices}
+use Rattle.model.specs.declared.Walk.{Walk}
 use Rattle.model.specs.declared.Averages.{Averages}
 use Rattle.model.specs.Lists.{Once}
 use Rattle.model.specs.Whole.{whole, exact}
@@ -30,7 +31,7 @@ use Rattle.delivery.specs.Costs.{Ready}
 use Rattle.delivery.proofs.Laws.{cost-exact}
 use Rattle.nearest_neighbor.specs.Answers.{rowOf}
 use Rattle.nearest_neighbor.proofs.Filling.{row-once}
-use Rattle.rebuild.specs.Rebuilt.{Rebuilt}
+use Rattle.rebuild.specs.Leaves.{Leaves}
 use Rattle.run_draws.specs.Picks.{pickedFrom, Picked}
 use Rattle.run_draws.proofs.Picks.{picked-same}
 use Rattle.run_round.specs.declared.Progress.{Progress}
@@ -134,10 +135,10 @@ module _ (legs : List ℕ) (v n : ℕ) (prices : Prices) (near ds : List ℕ) (c
   pub row-lent : (x : ℕ) → x < n → Once (take (x * 64 + n - x * 64) (drop (x * 64) near))
   row-lent x h = rw (part-row x n near) (row-once legs n x near (K .rows x h))
 
-  module _ (xs part mid blank picks ps out : List ℕ) (x k : ℕ) (new : Float) (p r : Progress) (S : Standing legs v n prices xs p) where
+  module _ (xs part mid blank picks ps out : List ℕ) (x k : ℕ) (walk : Walk) (p r : Progress) (S : Standing legs v n prices xs p) where
     pub rounded : x ≡ drawn ds (p .place) % n → x < n → part ≡ rowOf n x near
         → ((J : Job) → Fits J legs v n prices → (y : ℕ) → part ≡ neighbours J y → mid ≡ encode n (twoOptPass J (decode v xs) y))
-        → Picked near n ds (p .place) blank k picks → ps ≡ take k picks → Rebuilt legs v n prices mid ps out new → Counted p new k c r
+        → Picked near n ds (p .place) blank k picks → ps ≡ take k picks → Leaves legs v n prices mid ps out walk → Counted p (walk .cost) k c r
         → Rounded legs v n prices ds c xs p out r
     rounded ex hx er passes picked e rebuilt counted =
         record {
@@ -151,7 +152,7 @@ module _ (legs : List ℕ) (v n : ℕ) (prices : Prices) (near ds : List ℕ) (c
           rounds = counted .rounds;
           is =
               λ J limit F.
-              round-state J legs v n prices near ds c F K xs mid out ps new p r S (passed J F) (e ∙ picked .drawn) (rebuilt .plan J F) (rebuilt .lent) (rebuilt .costs .job J F)
+              round-state J legs v n prices near ds c F K xs mid out ps (walk .cost) p r S (passed J F) (e ∙ picked .drawn) (rebuilt .plan J F) (rebuilt .lent) (rebuilt .costs .job J F)
               (rw (e, picked .long) counted) limit;
         }
       where

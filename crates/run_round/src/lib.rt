@@ -66,6 +66,6 @@ pub fn round(
     two_opt::pass(legs, v, n, prices, plan, &near[row..row + n]);
     let mut picks = [0u32; 2];
     let k = run_draws::pick(near, n, draws, place, &mut picks);
-    let new = rebuild::rebuild(legs, v, n, prices, plan, &picks[0..k]);
-    counted(p, new, k, smoothing)
+    let walk = rebuild::rebuild(legs, v, n, prices, plan, &picks[0..k]);
+    counted(p, walk.cost, k, smoothing)
 }

@@ -7,9 +7,9 @@ use lib.ListN.{length, getD}
 use Rattle.model.specs.Job.{Job}
 use Rattle.model.specs.Run.{Task}
 use Rattle.model.specs.Refusals.{Arguments, asking, Call, Weigh, StartPlan, TwoOpt, Rebuild, Exhaustive, Pruned, Solve, Arrive, Cancel, MoveStop, running, looking, tableless, lengthening}
-use Rattle.model.specs.Calls.{costAnswer, startAnswer, solveAnswer, liveAnswer, viewAnswer, seenLeft, moveAnswer, roadAnswer, planLeft, blank}
+use Rattle.model.specs.Calls.{costAnswer, rebuildAnswer, startAnswer, solveAnswer, liveAnswer, viewAnswer, seenLeft, moveAnswer, roadAnswer, planLeft, blank}
 use Rattle.file_printing.specs.Printing.{Prints}
-use Rattle.sheet_lines.specs.Printed.{printedWeight, printedStart, printedWeighed, printedSolved, printedChanged, printedViewed, printedMoved, printedRaised}
+use Rattle.sheet_lines.specs.Printed.{printedWeight, printedStart, printedWeighed, printedRebuilt, printedSolved, printedChanged, printedViewed, printedMoved, printedRaised}
 use Rattle.sheet_calls.specs.Changing.{changing}
 use Rattle.sheet_calls.specs.Moving.{carrying}
 use Rattle.sheet_calls.specs.Lengthening.{roadOf}
@@ -64,9 +64,9 @@ module _ (old new : List ℕ) (r : ℕ) where
           (left-printed TwoOpt (asking J plan (getD given 0 0 ∷ getD given 1 0 ∷ [])) left l p))
 
       pub ran-rebuild : call ≡ 4 → left ≡ planLeft Rebuild (asking J plan given)
-          → Prints old new r (printedWeighed (costAnswer Rebuild (asking J plan given)) left) → JobPrints call J given plan old new r
+          → Prints old new r (printedRebuilt (rebuildAnswer (asking J plan given)) left) → JobPrints call J given plan old new r
       unfolding printedCall
-      ran-rebuild e l p T j = rw (e, j) (left-printed Rebuild (asking J plan given) left l p)
+      ran-rebuild e l p T j = rw (e, j) (subst (λ x. Prints old new r (printedRebuilt (rebuildAnswer (asking J plan given)) x)) l p)
 
       pub ran-exhaustive : call ≡ 5 → left ≡ planLeft Exhaustive (asking J plan [])
           → Prints old new r (printedWeighed (costAnswer Exhaustive (asking J plan [])) left) → JobPrints call J given plan old new r

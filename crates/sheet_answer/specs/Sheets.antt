@@ -10,9 +10,9 @@ use Rattle.model.specs.Job.{Job, jobOf}
 use Rattle.model.specs.Run.{Task}
 use Rattle.model.specs.File.{fileOf, Readable, Stands}
 use Rattle.model.specs.Refusals.{Arguments, asking, Call, Weigh, StartPlan, TwoOpt, Rebuild, Exhaustive, Pruned, Solve, Arrive, Cancel, View, MoveStop, Roadworks, unpriced, running, looking, tableless, lengthening}
-use Rattle.model.specs.Calls.{costAnswer, startAnswer, solveAnswer, liveAnswer, viewAnswer, seenLeft, moveAnswer, roadAnswer, planLeft, blank}
+use Rattle.model.specs.Calls.{costAnswer, rebuildAnswer, startAnswer, solveAnswer, liveAnswer, viewAnswer, seenLeft, moveAnswer, roadAnswer, planLeft, blank}
 use Rattle.sheet_head.specs.Form.{lastCall, hasGiven, leastGiven, mostGiven, hasPlan, headOf, ListFor, longestPlan}
-use Rattle.sheet_lines.specs.Printed.{printedWeight, printedStart, printedWeighed, printedSolved, printedChanged, printedViewed, printedMoved, printedRaised}
+use Rattle.sheet_lines.specs.Printed.{printedWeight, printedStart, printedWeighed, printedRebuilt, printedSolved, printedChanged, printedViewed, printedMoved, printedRaised}
 use Rattle.sheet_calls.specs.Changing.{changing}
 use Rattle.sheet_calls.specs.Moving.{carrying}
 use Rattle.sheet_calls.specs.Lengthening.{roadOf}
@@ -90,7 +90,9 @@ printedCall StartPlan given plan T =
     let A = asking (priceless (T .job)) plan [] in
     printedStart (startAnswer A) (planLeft StartPlan A)
 printedCall TwoOpt given plan T = printedCosts TwoOpt (asking (T .job) plan given)
-printedCall Rebuild given plan T = printedCosts Rebuild (asking (T .job) plan given)
+printedCall Rebuild given plan T =
+    let A = asking (T .job) plan given in
+    printedRebuilt (rebuildAnswer A) (planLeft Rebuild A)
 printedCall Exhaustive given plan T = printedCosts Exhaustive (asking (T .job) plan [])
 printedCall Pruned given plan T = printedCosts Pruned (asking (T .job) plan [])
 printedCall Solve given plan T =

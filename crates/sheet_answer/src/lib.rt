@@ -21,7 +21,7 @@ pub enum SheetRead {
     Bad(usize),
 }
 
-// Runs a call that answers a cost and a plan: two_opt, rebuild, exhaustive or pruned.
+// Runs a call that answers a cost and a plan, and rebuild also two counts: two_opt, rebuild, exhaustive or pruned.
 fn run_priced(
     call: u32,
     vehicles: &[u32],

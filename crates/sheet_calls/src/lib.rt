@@ -4,9 +4,9 @@ ghost use mathlib.Core.List.{[], _∷_};
 ghost use lib.ListN.{length};
 ghost use Rattle.model.specs.Job.{jobOf};
 ghost use Rattle.model.specs.Refusals.{asking, Weigh, StartPlan, TwoOpt, Rebuild, Exhaustive, Pruned, Solve, Arrive, Cancel, MoveStop, unpriced, running, looking, tableless, lengthening};
-ghost use Rattle.model.specs.Calls.{costAnswer, startAnswer, planLeft, solveAnswer, liveAnswer, viewAnswer, seenLeft, moveAnswer, roadAnswer};
+ghost use Rattle.model.specs.Calls.{costAnswer, rebuildAnswer, startAnswer, planLeft, solveAnswer, liveAnswer, viewAnswer, seenLeft, moveAnswer, roadAnswer};
 ghost use Rattle.file_printing.specs.Printing.{Prints};
-ghost use Rattle.sheet_lines.specs.Printed.{printedWeight, printedStart, Printable, printedWeighed, printedSolved, printedChanged, printedViewed, printedMoved, printedRaised};
+ghost use Rattle.sheet_lines.specs.Printed.{printedWeight, printedStart, Printable, printedWeighed, printedRebuilt, printedSolved, printedChanged, printedViewed, printedMoved, printedRaised};
 ghost use Rattle.sheet_calls.specs.Changing.{liveOf, changing};
 ghost use Rattle.sheet_calls.specs.Moving.{carrying};
 ghost use Rattle.sheet_calls.specs.Lengthening.{roadOf};
@@ -86,7 +86,7 @@ pub fn two_opt(
     sheet_lines::print_weighed(answer, plan, out)
 }
 
-// Rebuilds around the given stops, and prints the same.
+// Rebuilds around the given stops, and prints the cost, the fillings begun, the arrangements completed and the plan.
 pub fn rebuild(
     vehicles: &[u32],
     stops: &[u32],
@@ -99,11 +99,11 @@ pub fn rebuild(
 ) -> usize
     requires { ⌜ Printable (now plan) (now out) ⌝ }
     ensures { λ r. ⌜ Prints (now (out .entry)) (now (out .exit)) r
-        (printedWeighed (costAnswer Rebuild (asking (jobOf (now (vehicles .entry)) (now (stops .entry)) locations (now (distances .entry)) prices) (now (plan .entry)) (now (given .entry)))) (now (plan .exit))) ⌝ }
+        (printedRebuilt (rebuildAnswer (asking (jobOf (now (vehicles .entry)) (now (stops .entry)) locations (now (distances .entry)) prices) (now (plan .entry)) (now (given .entry)))) (now (plan .exit))) ⌝ }
     ensures { λ _. ⌜ now (plan .exit) ≡ planLeft Rebuild (asking (jobOf (now (vehicles .entry)) (now (stops .entry)) locations (now (distances .entry)) prices) (now (plan .entry)) (now (given .entry))) ⌝ }
 {
     let answer = planner::rebuild(vehicles, stops, locations, distances, prices, plan, given);
-    sheet_lines::print_weighed(answer, plan, out)
+    sheet_lines::print_rebuilt(answer, plan, out)
 }
 
 // Prints the cost and the plan of the exhaustive solver: how many bytes it is.

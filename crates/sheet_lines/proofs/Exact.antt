@@ -7,6 +7,9 @@ use native.Mathlib.Omega.{arith}
 use lib.Ieee.{Float}
 use Rattle.model.specs.declared.Weighed.{Weighed}
 use Rattle.model.specs.declared.Weighed.the-variants as W
+use Rattle.model.specs.declared.Walk.{Walk}
+use Rattle.model.specs.declared.Rebuilt.{Rebuilt}
+use Rattle.model.specs.declared.Rebuilt.the-variants as B
 use Rattle.model.specs.declared.Standing.{Standing}
 use Rattle.model.specs.declared.Changed.{Changed}
 use Rattle.model.specs.declared.Changed.the-variants as C
@@ -14,11 +17,11 @@ use Rattle.model.specs.Whole.{whole, exact}
 use Rattle.model.specs.Job.{Job}
 use Rattle.model.specs.Cost.{cost}
 use Rattle.model.specs.Live.{liveCost}
-use Rattle.model.specs.Refusals.{Arguments, naming, Call, Arrive, Cancel, refusal}
-use Rattle.model.specs.Calls.{made, newLive, weighed, changed, costAnswer, liveAnswer}
+use Rattle.model.specs.Refusals.{Arguments, naming, Call, Rebuild, Arrive, Cancel, refusal}
+use Rattle.model.specs.Calls.{made, newLive, begunBy, completedBy, weighed, rebuilt, changed, costAnswer, rebuildAnswer, liveAnswer}
 use Rattle.planner.proofs.Exact.{countsAll, made-exact}
 use Rattle.planner_live.proofs.Exact.{arrival-exact, cancellation-exact}
-use Rattle.sheet_lines.specs.Printed.{Exactly, StandsExactly}
+use Rattle.sheet_lines.specs.Printed.{Exactly, WalkedExactly, StandsExactly}
 
 some-cost : (x y : ℕ) (c : Float) → weighed x y ≡ W.Cost c → (x ≡ 0) × (c ≡ whole y)
 some-cost zero y c e = (refl, cc)
@@ -29,6 +32,16 @@ unfolding costAnswer
 exactly c A w p h f e =
     let k = some-cost (refusal c A) (cost (A .job) (made c A)) f (sym h ∙ e) in
     (cost (A .job) (made c A), made-exact c A (k .0) p, k .1)
+
+some-walk : (x y b m : ℕ) (w : Walk) → rebuilt x y b m ≡ B.Walked w → (x ≡ 0) × (w .cost ≡ whole y)
+some-walk zero y b m w e = let s : record { cost = whole y; begun = b; completed = m } ≡ w = cc in (refl, ap (λ u. u .cost) (sym s))
+some-walk (suc x) y b m w e = let z : _≡_ {A = ℕ} 0 1 = cc in absurd (omega arith)
+
+pub walked-exactly : (A : Arguments) (a : Rebuilt) → a ≡ rebuildAnswer A → WalkedExactly a
+unfolding rebuildAnswer
+walked-exactly A a h w e =
+    let k = some-walk (refusal Rebuild A) (cost (A .job) (made Rebuild A)) (begunBy A) (completedBy A) w (sym h ∙ e) in
+    (cost (A .job) (made Rebuild A), made-exact Rebuild A (k .0) refl, k .1)
 
 some-standing : (x live y : ℕ) (t : Standing) → changed x live y ≡ C.Stands t → (x ≡ 0) × (t .cost ≡ whole y)
 some-standing zero live y t e = let s : record { live = live; cost = whole y } ≡ t = cc in (refl, ap (λ u. u .cost) (sym s))

@@ -7,6 +7,7 @@ use mir.Syntax.{w64}
 use mir.Val.{SFits, ofZ, toZ}
 use mir.ValLaws.{toZ-ofZ}
 use Rattle.model.specs.declared.Weighed.{Weighed}
+use Rattle.model.specs.declared.Rebuilt.{Rebuilt}
 use Rattle.model.specs.declared.Written.{Written}
 use Rattle.model.specs.declared.Solved.{Solved}
 use Rattle.model.specs.declared.Changed.{Changed}
@@ -15,7 +16,7 @@ use Rattle.model.specs.declared.Moved.{Moved}
 use Rattle.model.specs.declared.Moved.the-variants as M
 use Rattle.model.specs.declared.Raised.{Raised}
 use Rattle.file_printing.specs.Printing.{Prints}
-use Rattle.sheet_lines.specs.Printed.{printedWeight, printedStart, printedWeighed, printedSolved, printedChanged, printedViewed, printedMoved, printedRaised}
+use Rattle.sheet_lines.specs.Printed.{printedWeight, printedStart, printedWeighed, printedRebuilt, printedSolved, printedChanged, printedViewed, printedMoved, printedRaised}
 
 module _ (old new : List ℕ) (r : ℕ) where
   pub shown-weight : (a b : Weighed) → a ≡ b → Prints old new r (printedWeight a) → Prints old new r (printedWeight b)
@@ -30,6 +31,9 @@ module _ (old new : List ℕ) (r : ℕ) where
 
     pub shown-weighed : (a b : Weighed) → a ≡ b → Prints old new r (printedWeighed a plan) → Prints old new r (printedWeighed b plan)
     shown-weighed a b e = subst (λ (x : Weighed). Prints old new r (printedWeighed x plan)) e
+
+    pub shown-rebuilt : (a b : Rebuilt) → a ≡ b → Prints old new r (printedRebuilt a plan) → Prints old new r (printedRebuilt b plan)
+    shown-rebuilt a b e = subst (λ (x : Rebuilt). Prints old new r (printedRebuilt x plan)) e
 
     pub shown-solved : (a b : Solved) → a ≡ b → Prints old new r (printedSolved a plan) → Prints old new r (printedSolved b plan)
     shown-solved a b e = subst (λ (x : Solved). Prints old new r (printedSolved x plan)) e

@@ -6,6 +6,9 @@ use lib.Ieee.{Float}
 use lib.ListN.{length}
 use Rattle.model.specs.declared.Weighed.{Weighed}
 use Rattle.model.specs.declared.Weighed.the-variants as W
+use Rattle.model.specs.declared.Walk.{Walk}
+use Rattle.model.specs.declared.Rebuilt.{Rebuilt}
+use Rattle.model.specs.declared.Rebuilt.the-variants as B
 use Rattle.model.specs.declared.Written.{Written}
 use Rattle.model.specs.declared.Written.the-variants as D
 use Rattle.model.specs.declared.Solved.{Solved}
@@ -22,7 +25,7 @@ use Rattle.model.specs.declared.Raised.the-variants as R
 use Rattle.model.specs.Whole.{IsWhole}
 use Rattle.model.specs.File.{line, printedRefusal}
 use Rattle.file_printing.specs.Printing.{printedTotals}
-use Rattle.sheet_printing.specs.Costs.{printedCost, printedStanding, printedNumber, printedChange}
+use Rattle.sheet_printing.specs.Costs.{printedCost, printedWalk, printedStanding, printedNumber, printedChange}
 use Rattle.sheet_head.specs.Form.{longestPlan}
 
 -- of weigh: the cost
@@ -35,10 +38,15 @@ abbrev pub printedStart : Written → List ℕ → List ℕ
 printedStart (D.Refused number) plan = printedRefusal number
 printedStart D.Done plan = line 14 plan
 
--- of two_opt, rebuild, exhaustive and pruned: the cost and the plan
+-- of two_opt, exhaustive and pruned: the cost and the plan
 abbrev pub printedWeighed : Weighed → List ℕ → List ℕ
 printedWeighed (W.Refused number) plan = printedRefusal number
 printedWeighed (W.Cost c) plan = printedCost c ++ line 14 plan
+
+-- of rebuild: the cost, the fillings begun, the arrangements completed and the plan
+abbrev pub printedRebuilt : Rebuilt → List ℕ → List ℕ
+printedRebuilt (B.Refused number) plan = printedRefusal number
+printedRebuilt (B.Walked w) plan = printedWalk w ++ line 14 plan
 
 -- of solve: the numbers of the run and the plan
 abbrev pub printedSolved : Solved → List ℕ → List ℕ
@@ -77,6 +85,9 @@ pub record Printable (plan out : List ℕ) : Type 0 where
 -- an answer's cost is a whole number
 abbrev pub Exactly : Weighed → Type 0
 Exactly w = (c : Float) → w ≡ W.Cost c → IsWhole c
+
+abbrev pub WalkedExactly : Rebuilt → Type 0
+WalkedExactly a = (w : Walk) → a ≡ B.Walked w → IsWhole (w .cost)
 
 abbrev pub StandsExactly : Changed → Type 0
 StandsExactly a = (t : Standing) → a ≡ C.Stands t → IsWhole (t .cost)

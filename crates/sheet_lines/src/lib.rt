@@ -2,10 +2,11 @@
 ghost use Prim.Native.Nat.{_≤_};
 ghost use lib.ListN.{length};
 ghost use Rattle.file_printing.specs.Printing.{Prints};
-ghost use Rattle.sheet_lines.specs.Printed.{printedWeighed, printedChanged, printedViewed, printedMoved, printedRaised, Printable, Exactly, StandsExactly};
+ghost use Rattle.sheet_lines.specs.Printed.{printedWeighed, printedRebuilt, printedChanged, printedViewed, printedMoved, printedRaised, Printable, Exactly, WalkedExactly, StandsExactly};
 use model::Changed;
 use model::Moved;
 use model::Raised;
+use model::Rebuilt;
 use model::Viewed;
 use model::Weighed;
 
@@ -18,6 +19,18 @@ pub fn print_weighed(answer: Weighed, plan: &[u32], out: &mut [u8]) -> usize
     match answer {
         Weighed::Refused(number) => file_printing::print_refusal(number, out),
         Weighed::Cost(c) => sheet_printing::print_cost_and_list(c, plan, out),
+    }
+}
+
+// The cost and both counts of a rebuild and a plan, or a refusal.
+pub fn print_rebuilt(answer: Rebuilt, plan: &[u32], out: &mut [u8]) -> usize
+    requires { ⌜ Printable (now plan) (now out) ⌝ }
+    requires { ⌜ WalkedExactly answer ⌝ }
+    ensures { λ r. ⌜ Prints (now (out .entry)) (now (out .exit)) r (printedRebuilt answer (now (plan .entry))) ⌝ }
+{
+    match answer {
+        Rebuilt::Refused(number) => file_printing::print_refusal(number, out),
+        Rebuilt::Walked(w) => sheet_printing::print_walk_and_list(w, plan, out),
     }
 }
 

@@ -1,4 +1,4 @@
--- Lines of numbers in 14 columns, the line of a cost, the line of live stops and a cost, the lines of a number of 64 bits and of a change.
+-- Lines of numbers in 14 columns, the line of a cost, of a walk, of live stops and a cost, of a number of 64 bits and of a change.
 use mathlib.Core.Path.{_≡_, sym, _∙_, ap}
 use mathlib.Core.List.{List, [], _∷_, _++_, append-nil, append-assoc}
 use Prim.Native.Nat.{ℕ, _+_, _*_, _^_, _≤_, _<_}
@@ -12,6 +12,7 @@ use lib.Seq.{take-suc, take-all}
 use mir.Syntax.{w32, w64}
 use mir.Val.{Fits, SFits, ofZ, toZ}
 use mir.ValLaws.{toZ-ofZ}
+use Rattle.model.specs.declared.Walk.{Walk}
 use Rattle.model.specs.declared.Standing.{Standing}
 use Rattle.model.specs.Whole.{amount}
 use Rattle.model.specs.File.{lineFeed, columns, signedColumns, fields, line, printedRefusal}
@@ -21,7 +22,7 @@ use Rattle.file_columns.specs.Put.{written}
 use Rattle.file_columns.proofs.Puts.{written-nil}
 use Rattle.file_columns.proofs.Signs.{signed-length}
 use Rattle.file_printing.specs.Printing.{Prints}
-use Rattle.sheet_printing.specs.Costs.{printedCost, printedStanding, printedNumber, printedChange}
+use Rattle.sheet_printing.specs.Costs.{printedCost, printedWalk, printedStanding, printedNumber, printedChange}
 use Rattle.file_printing.proofs.Pieces.{after, line-feed, amount-small, refusal-printed}
 
 module _ (old : List ℕ) (at : ℕ) (list : List ℕ) (f : Fitting list) (room : at + (14 * length list + 1) ≤ length old) where
@@ -79,6 +80,26 @@ change-length z f = simp (length-append, signed-length z (f .sfits))
 -- and so is its line
 pub change-back : (z : ℤ) (old a : List ℕ) → SFits w64 z → a ≡ written old 0 (printedChange (toZ w64 (ofZ w64 z))) → a ≡ written old 0 (printedChange z)
 change-back z old a f e = e ∙ ap (λ x. written old 0 (printedChange x)) (toZ-ofZ w64 z f)
+
+pub walk-line : (w : Walk) (k : ℕ) (old a b c : List ℕ) → w .begun < 10 ^ 20 → w .completed < 10 ^ 20 → k ≡ amount (w .cost) → 61 ≤ length old
+    → a ≡ written old 0 (columns 20 k) → b ≡ written a 20 (columns 20 (w .begun)) → c ≡ written b 40 (columns 20 (w .completed))
+    → set c 60 lineFeed ≡ written old 0 (printedWalk w)
+unfolding printedWalk line fields
+walk-line w k old a b c small few e room ea eb ec =
+    let p = columns 20 (amount (w .cost)) in
+    let q = columns 20 (w .begun) in
+    let s = columns 20 (w .completed) in
+    let l : length p ≡ 20 = columns-length 19 (amount (w .cost)) (amount-small (w .cost)) in
+    let both : length (p ++ q) ≡ 40 = rw (length-append p q, l, columns-length 19 (w .begun) small) in
+    let all : length ((p ++ q) ++ s) ≡ 60 = rw (length-append (p ++ q) s, both, columns-length 19 (w .completed) few) in
+    let two : b ≡ written old 0 (p ++ q) = after old a b 0 20 p q l (omega arith) (ea ∙ ap (λ x. written old 0 (columns 20 x)) e) eb in
+    line-feed old c 0 60 ((p ++ q) ++ s) all (omega arith) (after old b c 0 40 (p ++ q) s both (omega arith) two ec)
+    ∙ ap (written old 0) (simp (append-assoc, append-nil))
+
+pub walk-length : (w : Walk) → w .begun < 10 ^ 20 → w .completed < 10 ^ 20 → length (printedWalk w) ≡ 61
+unfolding printedWalk line fields
+walk-length w small few =
+    simp (length-append, append-nil, columns-length 19 (amount (w .cost)) (amount-small (w .cost)), columns-length 19 (w .begun) small, columns-length 19 (w .completed) few)
 
 pub standing-line : (t : Standing) (w : ℕ) (old a b : List ℕ) → t .live < 10 ^ 20 → w ≡ amount (t .cost) → 41 ≤ length old
     → a ≡ written old 0 (columns 20 (t .live)) → b ≡ written a 20 (columns 20 w) → set b 40 lineFeed ≡ written old 0 (printedStanding t)

@@ -1,7 +1,8 @@
-// The lines that the program prints for the answer of a single call: a cost, a plan, the numbers of a run, live stops and a cost, a set of
-// stops, a change in cost, a rise in cost.
+// The lines that the program prints for the answer of a single call: a cost, a plan, a cost and the counts of a walk, the numbers of a run,
+// live stops and a cost, a set of stops, a change in cost, a rise in cost.
 use model::Standing;
 use model::Totals;
+use model::Walk;
 ghost use mathlib.Core.Path.{_≡_};
 ghost use mathlib.Core.List.{_++_};
 ghost use Prim.Native.Nat.{_+_, _*_, _≤_};
@@ -10,7 +11,7 @@ ghost use Rattle.model.specs.File.{line};
 ghost use Rattle.model.specs.Whole.{IsWhole};
 ghost use Rattle.file_columns.specs.Put.{written};
 ghost use Rattle.file_printing.specs.Printing.{printedTotals, Priced, Prints};
-ghost use Rattle.sheet_printing.specs.Costs.{printedCost, printedStanding, printedNumber, printedChange};
+ghost use Rattle.sheet_printing.specs.Costs.{printedCost, printedWalk, printedStanding, printedNumber, printedChange};
 
 // A line of numbers in 14 columns each, from a position on.
 fn put_list(out: &mut [u8], at: usize, list: &[u32])
@@ -33,6 +34,18 @@ fn put_cost(out: &mut [u8], c: f64)
 {
     file_columns::put_number(out, 0, 20, whole::to_whole(c));
     out[20] = b'\n';
+}
+
+// The line of a rebuild: the cost, the fillings begun, the arrangements completed.
+fn put_walk(out: &mut [u8], w: Walk)
+    requires { ⌜ 61 ≤ length (now out) ⌝ }
+    requires { ⌜ IsWhole (w .cost) ⌝ }
+    ensures { λ _. ⌜ now (out .exit) ≡ written (now (out .entry)) 0 (printedWalk w) ⌝ }
+{
+    file_columns::put_number(out, 0, 20, whole::to_whole(w.cost));
+    file_columns::put_number(out, 20, 20, w.begun);
+    file_columns::put_number(out, 40, 20, w.completed);
+    out[60] = b'\n';
 }
 
 // The line of a set of live stops and a cost.
@@ -110,6 +123,17 @@ pub fn print_cost_and_list(c: f64, list: &[u32], out: &mut [u8]) -> usize
 {
     put_cost(out, c);
     put_list_after(out, list)
+}
+
+// For what a rebuild answers, and a plan.
+pub fn print_walk_and_list(w: Walk, list: &[u32], out: &mut [u8]) -> usize
+    requires { ⌜ 14 * length (now list) + 62 ≤ length (now out) ⌝ }
+    requires { ⌜ IsWhole (w .cost) ⌝ }
+    ensures { λ r. ⌜ Prints (now (out .entry)) (now (out .exit)) r (printedWalk w ++ line 14 (now (list .entry))) ⌝ }
+{
+    put_walk(out, w);
+    put_list(out, 61, list);
+    14 * list.len() + 62
 }
 
 // For the numbers of a run and a plan.

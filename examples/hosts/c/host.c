@@ -76,11 +76,19 @@ static void show_two_opt(uint32_t first, uint32_t second)
     show_cost("two_opt", refused, cost);
 }
 
+/* a rebuild also answers how many fillings of its first region it began, and how many arrangements it completed */
 static void show_rebuild(const uint32_t *given, size_t count)
 {
     double cost = -1;
-    uint32_t refused = planner_rebuild(LISTS, PRICES, plan, COUNT(plan), given, count, &cost);
-    show_cost("rebuild", refused, cost);
+    uint64_t begun = 7, completed = 7;
+    uint32_t refused = planner_rebuild(LISTS, PRICES, plan, COUNT(plan), given, count, &cost, &begun, &completed);
+    if (refused && (cost != -1 || begun != 7 || completed != 7))
+        abort();
+    if (refused)
+        printf("rebuild refused %" PRIu32, refused);
+    else
+        printf("rebuild cost %.0f begun %" PRIu64 " completed %" PRIu64, cost, begun, completed);
+    show_plan();
 }
 
 static void show_exhaustive(void)
@@ -179,6 +187,7 @@ int main(void)
     show_two_opt(0, 0); /* one stop twice: refused */
     show_two_opt(0, 1);
     show_start_plan();
+    show_rebuild(both, 0); /* no stop: refused */
     show_rebuild(both, 1);
     show_start_plan();
     show_rebuild(both, 2);

@@ -68,7 +68,8 @@ static void roadworks(void)
 static void rebuild(void)
 {
     uint32_t given[] = {1, 0};
-    refused = planner_rebuild(LISTS(fleet, STOPS), PRICES, plan, fleet + STOPS, given, fleet == 1 ? 1 : 2, &cost);
+    uint64_t begun, completed;
+    refused = planner_rebuild(LISTS(fleet, STOPS), PRICES, plan, fleet + STOPS, given, fleet == 1 ? 1 : 2, &cost, &begun, &completed);
 }
 
 static void solve(void)

@@ -31,6 +31,16 @@ def show_cost(name, call, plan):
     return show(name, answer, plan)
 
 
+def show_rebuild(given, plan):
+    """A rebuild also answers how many fillings of its first region it began, and how many arrangements it completed."""
+
+    def answer():
+        walk = planner.rebuild(JOB, plan, given)
+        return f" cost {walk.cost} begun {walk.begun} completed {walk.completed}", walk.plan
+
+    return show("rebuild", answer, plan)
+
+
 def show_change(name, call, live, plan):
     """Answers the live set, which is that from before where the call is refused, and the plan."""
 
@@ -90,9 +100,10 @@ show("weigh", lambda: (f" cost {planner.weigh(JOB, start)}", start), start)
 show_cost("two_opt", lambda: planner.two_opt(JOB, start, 0, 0), start)  # one stop twice: refused
 plan = show_cost("two_opt", lambda: planner.two_opt(JOB, start, 0, 1), start)
 start = show_start_plan(plan)
-plan = show_cost("rebuild", lambda: planner.rebuild(JOB, start, [0]), start)
+plan = show_rebuild([], start)  # no stop: refused
+plan = show_rebuild([0], start)
 start = show_start_plan(plan)
-plan = show_cost("rebuild", lambda: planner.rebuild(JOB, start, [0, 1]), start)
+plan = show_rebuild([0, 1], start)
 plan = show_cost("exhaustive", lambda: planner.exhaustive(JOB), plan)
 plan = show_cost("pruned", lambda: planner.pruned(JOB), plan)
 live = 3  # both stops

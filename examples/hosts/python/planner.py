@@ -14,6 +14,8 @@
     Traceback (most recent call last):
         ...
     planner.Refused: refused, 12: a given stop does not exist, the given stops are equal, or (rebuild) they are not one or two
+    >>> planner.rebuild(job, [2, 0, 1], [0])  # both stops in one region: 5 ways to fill it
+    Walk(cost=6, begun=5, completed=5, plan=[2, 1, 0])
     >>> planner.move_stop(job, run.plan, vans=1, stop=1, van=0, place=1)  # for a caller who holds van 0
     Moved(change=14, plan=[2, 0, 1])
     >>> planner.view(job, run.plan, vans=1)
@@ -38,7 +40,7 @@ from dataclasses import dataclass
 from pathlib import Path
 
 __all__ = [
-    "UNUSED", "Job", "Moved", "Refused", "Run", "Standing", "View", "Weighed",
+    "UNUSED", "Job", "Moved", "Refused", "Run", "Standing", "View", "Walk", "Weighed",
     "arrive", "cancel", "exhaustive", "move_stop", "pruned", "rebuild", "roadworks", "routes", "solve", "start_plan", "two_opt",
     "view", "weigh",
 ]  # fmt: skip
@@ -71,6 +73,17 @@ class Weighed:
     """A plan and its cost."""
 
     cost: int
+    plan: list
+
+
+@dataclass
+class Walk:
+    """What a rebuild answers: the plan, its cost, how many fillings of the first region were begun, and how many arrangements were
+    completed, each different one counted once."""
+
+    cost: int
+    begun: int
+    completed: int
     plan: list
 
 
@@ -144,8 +157,12 @@ def two_opt(job, plan, first, second):
 
 
 def rebuild(job, plan, given):
-    """The plan rebuilt around one or two stops, and its cost."""
-    return _weighed("planner_rebuild", job, plan, *_list(given))
+    """The plan rebuilt around one or two stops. The stops of a stretch around each are put back in the best way; the first region is
+    that of the first of these stops that has one. Where none of them is on a route nothing changes, and both counts are 0."""
+    plan, cost = array("I", plan), ctypes.c_double()
+    begun, completed = ctypes.c_uint64(), ctypes.c_uint64()
+    _call("planner_rebuild", *_job(job), *_prices(job), *_list(plan), *_list(given), cost, begun, completed)
+    return Walk(int(cost.value), begun.value, completed.value, plan.tolist())
 
 
 def exhaustive(job):
@@ -218,7 +235,7 @@ def routes(job, plan):
 
 _U32, _U64, _SIZE = ctypes.c_uint32, ctypes.c_uint64, ctypes.c_size_t
 _NUMBERS, _COST = ctypes.POINTER(ctypes.c_uint32), ctypes.POINTER(ctypes.c_double)
-_SET = _RISE = ctypes.POINTER(ctypes.c_uint64)
+_SET = _RISE = _COUNT = ctypes.POINTER(ctypes.c_uint64)
 _CHANGE = ctypes.POINTER(ctypes.c_int64)
 _LIST = [_NUMBERS, _SIZE]
 _JOB = [*_LIST, *_LIST, _U32, *_LIST]
@@ -228,7 +245,7 @@ DECLARATIONS = {
     "planner_weigh": [*_JOB, *_PRICES, *_LIST, _COST],
     "planner_start_plan": [*_JOB, *_LIST],
     "planner_two_opt": [*_JOB, *_PRICES, *_LIST, _U32, _U32, _COST],
-    "planner_rebuild": [*_JOB, *_PRICES, *_LIST, *_LIST, _COST],
+    "planner_rebuild": [*_JOB, *_PRICES, *_LIST, *_LIST, _COST, _COUNT, _COUNT],
     "planner_exhaustive": [*_JOB, *_PRICES, *_LIST, _COST],
     "planner_pruned": [*_JOB, *_PRICES, *_LIST, _COST],
     "planner_solve": [*_JOB, *_PRICES, _U32, _U32, *_LIST, *_LIST, _COST, _COST, _NUMBERS, _NUMBERS, _NUMBERS],

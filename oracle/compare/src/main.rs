@@ -7,6 +7,7 @@ mod program;
 mod roads;
 mod shrink;
 mod steps;
+mod walks;
 
 use generate::Kind;
 use program::Program;
@@ -23,18 +24,19 @@ const USAGE: &str = "\
 usage: compare [--seed S] [--count N] [--batch B] [--seconds T] [--from I] [--input FILE] KIND PROGRAM PROGRAM
 KIND: what `oracle gen` makes, or days: arrivals and cancellations one after another, each sheet made of the second
 program's last answer; or pairs: two plans that are the same to a caller, and the caller's views and moves, likewise; or
-roads: roadworks, each with its plan weighed before and after.
+roads: roadworks, each with its plan weighed before and after; or walks: rebuilds, each also with its picks exchanged.
 PROGRAM: a command with its arguments, which reads an input and prints answers.
 N inputs are made from the seed S, from number I on, and handed over B at a time (job files one at a time).
 A program that runs longer than T seconds is stopped, which is a difference. With --input only that file is compared.";
 
-/// Days and pairs have no texts of their own: a sheet depends on the answers before it. Nor have roads, whose sheets belong
-/// together.
+/// Days and pairs have no texts of their own: a sheet depends on the answers before it. Nor have roads and walks, whose sheets
+/// belong together.
 enum Inputs {
     Texts(Kind),
     Days,
     Pairs,
     Roads,
+    Walks,
 }
 
 struct Options {
@@ -84,6 +86,7 @@ fn options() -> Result<Options, Box<dyn Error>> {
         "days" => Inputs::Days,
         "pairs" => Inputs::Pairs,
         "roads" => Inputs::Roads,
+        "walks" => Inputs::Walks,
         kind => Inputs::Texts(kind.parse()?),
     };
     let program = |command: &str| Program::new(command, Duration::from_secs(seconds));
@@ -120,6 +123,7 @@ fn run(options: &Options) -> Result<bool, Box<dyn Error>> {
         Inputs::Days => days::run(options),
         Inputs::Pairs => pairs::run(options),
         Inputs::Roads => roads::run(options),
+        Inputs::Walks => walks::run(options),
     }
 }
 

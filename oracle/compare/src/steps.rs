@@ -1,4 +1,4 @@
-//! What days, pairs and roads have in common. They are played step by step: the sheets of a step are made of the second
+//! What days, pairs, roads and walks have in common. They are played step by step: the sheets of a step are made of the second
 //! program's answers to the step before. All games go on side by side, so that a program is started once for a batch of sheets.
 //! Besides comparing the two programs each game tests the answers by claims of its own.
 

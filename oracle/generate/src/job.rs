@@ -167,6 +167,23 @@ pub fn road_job(random: &mut Random) -> Job {
     job
 }
 
+/// A job for a rebuild. Most have vehicles and stops for two regions.
+pub fn walk_job(random: &mut Random) -> Job {
+    if random.once_in(4) {
+        return vans_job(random);
+    }
+
+    let sizes = Sizes {
+        vehicles: random.within(2..=6),
+        stops: random.within(2..=24),
+        locations: random.within(1..=30),
+    };
+    let mut job = sized_job(random, sizes);
+
+    put_price(random, &mut job);
+    job
+}
+
 /// Few jobs have no price at all for driving.
 fn put_price(random: &mut Random, job: &mut Job) {
     if job.linear == 0 && job.quadratic == 0 && !random.once_in(4) {

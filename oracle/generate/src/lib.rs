@@ -9,10 +9,12 @@ mod recorded_live;
 mod recorded_refusals;
 mod recorded_roads;
 mod recorded_vans;
+mod recorded_walks;
 mod refused;
 mod roads;
 mod sheet;
 mod vans;
+mod walks;
 
 pub use crate::{
     job::{long_job, small_job, sufficient, Sizes, MAX_DISTANCE},
@@ -23,6 +25,7 @@ pub use crate::{
     roads::{road, uses},
     sheet::{accepted_sheet, plan, sheet},
     vans::{pair, Move, Pair},
+    walks::{drained, walk},
 };
 
 use ::sheet::{write_job, write_sheet, Call};

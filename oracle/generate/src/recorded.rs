@@ -7,6 +7,7 @@ use crate::{
     recorded_refusals::recorded_refusals,
     recorded_roads::recorded_roads,
     recorded_vans::recorded_vans,
+    recorded_walks::recorded_walks,
     Random,
 };
 use sheet::{all_stops, encode, given_live, placed_stops, Call, Job, Routes, Sheet};
@@ -27,7 +28,7 @@ const ACCEPTED: [(Call, usize); 9] = [
     (Call::Cancel, 40),
 ];
 
-/// All recorded sheets that are in form, in the order in which they joined: those of roadworks last.
+/// All recorded sheets that are in form, in the order in which they joined: those for the counts of rebuilds last.
 pub fn recorded_sheets() -> Vec<Sheet> {
     let accepted = ACCEPTED.into_iter().flat_map(|(call, count)| {
         let mut turns = Turns::new(call);
@@ -44,6 +45,7 @@ pub fn recorded_sheets() -> Vec<Sheet> {
         .chain(largest_sheets())
         .chain(recorded_vans())
         .chain(recorded_roads())
+        .chain(recorded_walks())
         .collect()
 }
 

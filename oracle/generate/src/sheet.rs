@@ -1,9 +1,10 @@
 use crate::{
-    job::{any_job, job, live_job, road_job, run_job, small_job, vans_job, Sizes},
+    job::{any_job, job, live_job, road_job, run_job, small_job, vans_job, walk_job, Sizes},
     live::live_sheet,
     refused::refuse,
     roads::road_sheet,
     vans::vans_sheet,
+    walks::walk_sheet,
     Random,
 };
 use sheet::{encode, Call, Job, Sheet};
@@ -44,6 +45,7 @@ pub fn accepted_sheet(random: &mut Random, call: Call) -> Sheet {
         Call::Exhaustive | Call::Pruned => job(random, Sizes::SMALL),
         Call::Solve => run_job(random),
         Call::Arrive | Call::Cancel => live_job(random),
+        Call::Rebuild => walk_job(random),
         Call::View | Call::MoveStop => vans_job(random),
         Call::Roadworks => road_job(random),
         _ => any_job(random),
@@ -76,6 +78,10 @@ pub fn sheet(random: &mut Random, call: Call, job: Job) -> Sheet {
 
     if call.has_road() {
         return road_sheet(random, job);
+    }
+
+    if call == Call::Rebuild {
+        return walk_sheet(random, job);
     }
 
     let plan = if call.has_plan() {
@@ -128,7 +134,7 @@ pub fn plan(random: &mut Random, vehicle_count: usize, stop_count: usize) -> Vec
 }
 
 /// Stops of a call. Where there are too few, some that are refused.
-fn given(random: &mut Random, call: Call, job: &Job) -> Vec<u32> {
+pub fn given(random: &mut Random, call: Call, job: &Job) -> Vec<u32> {
     let count = if call == Call::TwoOpt {
         2
     } else {

@@ -1,5 +1,6 @@
 //! The same steps written anew for speed: whole numbers, route lengths kept and changed by differences, sets of stops as
-//! bits, no maps. It shows how fast the steps can go; nothing is proved about it.
+//! bits, no maps. It shows how fast the steps can go; nothing is proved about it. What the call of a rebuild counts, no run
+//! does: `walk.rs` counts it apart.
 
 mod arrange;
 mod day;
@@ -12,10 +13,12 @@ mod run;
 mod start;
 mod two_opt;
 mod vans;
+mod walk;
 
 use day::Day;
 use plan::Plan;
-use sheet::{Changed, Job, Moved, Planner, Road, Routes, Run, Seen};
+use sheet::{Changed, Job, Moved, Planner, Rebuilt, Road, Routes, Run, Seen};
+use walk::Counts;
 
 pub struct Plain;
 
@@ -40,12 +43,19 @@ impl Planner for Plain {
         plan.to_routes(&day)
     }
 
-    fn rebuild(job: &Job, routes: &Routes, stops: &[usize]) -> Routes {
+    fn rebuild(job: &Job, routes: &Routes, stops: &[usize]) -> Rebuilt {
         let day = Day::new(job);
         let mut plan = Plan::from_routes(&day, routes);
+        let regions = rebuild::regions(&plan, stops);
+        let Counts { begun, completed } = walk::count(routes, &regions, |_| ());
 
         rebuild::rebuild(&day, &mut plan, stops);
-        plan.to_routes(&day)
+
+        Rebuilt {
+            begun,
+            completed,
+            routes: plan.to_routes(&day),
+        }
     }
 
     fn exhaustive(job: &Job) -> Routes {

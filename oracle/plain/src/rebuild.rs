@@ -7,8 +7,20 @@ use std::ops::Range;
 
 const MAX_SUB_PROBLEM_SIZE: usize = 8;
 
+/// A vehicle and a stretch of its route.
+pub type Region = (usize, Range<usize>);
+
 /// The rebuild of the regions around the picks.
 pub fn rebuild(day: &Day, plan: &mut Plan, picks: &[usize]) {
+    let mut regions = regions(plan, picks);
+
+    regions.sort_by_key(|&(vehicle, _)| vehicle);
+    arrange(day, plan, &regions, &[]);
+}
+
+/// The regions around the picks that are kept, in the order of these: of a pick that is placed, on a vehicle that no pick before
+/// it is on.
+pub fn regions(plan: &Plan, picks: &[usize]) -> Vec<Region> {
     let mut kept = Vec::with_capacity(2);
 
     for &pick in picks {
@@ -21,8 +33,7 @@ pub fn rebuild(day: &Day, plan: &mut Plan, picks: &[usize]) {
         }
     }
 
-    let mut regions = kept
-        .iter()
+    kept.iter()
         .map(|&(vehicle, position)| {
             let size = (MAX_SUB_PROBLEM_SIZE - picks.len()) / kept.len();
             let start = position.saturating_sub(size / 2);
@@ -30,10 +41,7 @@ pub fn rebuild(day: &Day, plan: &mut Plan, picks: &[usize]) {
 
             (vehicle, start..end)
         })
-        .collect::<Vec<_>>();
-
-    regions.sort_by_key(|&(vehicle, _)| vehicle);
-    arrange(day, plan, &regions, &[]);
+        .collect()
 }
 
 /// Every arrangement of all stops on all vehicles of a plan with nothing placed.
@@ -48,7 +56,7 @@ pub fn exhaustive(day: &Day, plan: &mut Plan) {
 
 /// Keeps the best arrangement of the regions' stops and some unplaced ones where the regions are, which are in the
 /// order of their vehicles.
-fn arrange(day: &Day, plan: &mut Plan, regions: &[(usize, Range<usize>)], unplaced: &[u8]) {
+fn arrange(day: &Day, plan: &mut Plan, regions: &[Region], unplaced: &[u8]) {
     let mut stops = [0; MAX_DRAINED];
     let mut count = unplaced.len();
     let mut gaps = [Gap::default(); MAX_GAPS];
@@ -103,7 +111,7 @@ fn gap_of(day: &Day, route: Route, range: Range<usize>) -> Gap {
     gap
 }
 
-fn fill(day: &Day, plan: &mut Plan, regions: &[(usize, Range<usize>)], stops: &[u8], best: &Fill) {
+fn fill(day: &Day, plan: &mut Plan, regions: &[Region], stops: &[u8], best: &Fill) {
     plan.drain(stops);
 
     for (gap, (vehicle, range)) in regions.iter().enumerate() {

@@ -29,6 +29,15 @@ pub struct Run {
     pub settled: bool,
 }
 
+/// What a rebuild answers besides its cost: how many fillings of the first region it begins and how many arrangements it
+/// completes, each different one counted once, and the plan that it leaves.
+#[derive(Clone, Debug, Eq, PartialEq)]
+pub struct Rebuilt {
+    pub begun: u64,
+    pub completed: u64,
+    pub routes: Routes,
+}
+
 /// What an arrival or a cancellation answers: the new live stops and the cost, and the plan that it leaves.
 #[derive(Clone, Debug, Eq, PartialEq)]
 pub struct Changed {
@@ -56,7 +65,7 @@ pub trait Planner {
     fn weigh(job: &Job, routes: &Routes) -> u64;
     fn start_plan(job: &Job) -> Routes;
     fn two_opt(job: &Job, routes: &Routes, stops: [usize; 2]) -> Routes;
-    fn rebuild(job: &Job, routes: &Routes, stops: &[usize]) -> Routes;
+    fn rebuild(job: &Job, routes: &Routes, stops: &[usize]) -> Rebuilt;
     fn exhaustive(job: &Job) -> Routes;
     fn pruned(job: &Job) -> Routes;
     fn solve(job: &Job) -> (Run, Routes);

@@ -1,6 +1,6 @@
 use crate::{
     decode, encode, read_job, read_sheet, refusal, write::numbers, Call, Changed, Malformed,
-    Planner, Routes, Run, Sheet,
+    Planner, Rebuilt, Routes, Run, Sheet,
 };
 use std::io::{self, Write};
 
@@ -82,7 +82,15 @@ fn answer<P: Planner>(sheet: &Sheet) -> String {
         Call::Weigh => costs([P::weigh(job, &routes)]),
         Call::StartPlan => plan_line(&P::start_plan(job)),
         Call::TwoOpt => weighed(P::two_opt(job, &routes, [given[0], given[1]])),
-        Call::Rebuild => weighed(P::rebuild(job, &routes, &given)),
+        Call::Rebuild => {
+            let Rebuilt {
+                begun,
+                completed,
+                routes,
+            } = P::rebuild(job, &routes, &given);
+
+            costs([P::weigh(job, &routes), begun, completed]) + &plan_line(&routes)
+        }
         Call::Exhaustive => weighed(P::exhaustive(job)),
         Call::Pruned => weighed(P::pruned(job)),
         Call::Solve => {

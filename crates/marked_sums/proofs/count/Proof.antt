@@ -1,12 +1,9 @@
 use Prim.Native.Nat.{_+_}
 use mathlib.Core.Path.{sym}
 use native.Mathlib.Omega.{arith}
-use lib.ListN.{length, replicate}
+use lib.ListN.{replicate}
 use lib.Seq.{length-take-le}
-use Rattle.model.specs.Plan.{decode}
-use Rattle.model.specs.Region.{drained}
-use Rattle.rebuild_words.specs.Gaps.{regionsOf}
-use Rattle.marked_sums.proofs.Plans.{no-legs, counted}
+use Rattle.marked_sums.proofs.Plans.{no-legs}
 use borrow.Author.Needs.{needs}
 use Rattle.marked_sums.proofs.count.Statement.{statement}
 use Rattle.marked_sums.proofs.count.Tie as tie
@@ -40,10 +37,7 @@ arrange-requires c κs =
     )
 
 returns : tie.Need-returns
-returns c =
-    let s = c .before .before .before .before .before .before in
-    counted (c .before .arrange .result .count) (length (regionsOf (s .args .regions .now))) (drained (decode (s .args .v) (s .args .plan .now)) (regionsOf (s .args .regions .now)))
-    (c .before .arrange .ensures .count)
+returns c = (c .before .arrange .ensures .started, c .before .arrange .ensures .met)
 
 pub count-spec : {M : Type 1} → statement M
 count-spec =

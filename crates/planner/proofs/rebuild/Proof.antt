@@ -1,9 +1,9 @@
 use mathlib.Core.Path.{_≡_, refl, sym, _∙_}
 use Rattle.model.specs.Job.{jobOf}
 use Rattle.model.specs.Refusals.{Arguments, asking, Rebuild, refusal}
-use Rattle.model.specs.Calls.{made}
+use Rattle.model.specs.Calls.{made, begunBy, completedBy}
 use Rattle.call_refusals.proofs.Accepted.{listed, affordable, lent, stops}
-use Rattle.planner.proofs.Saying.{weighs-refused, weighs-accepted}
+use Rattle.planner.proofs.Saying.{rebuilds-refused, rebuilds-accepted}
 use borrow.Author.Needs.{needs}
 use Rattle.planner.proofs.rebuild.Statement.{statement}
 use Rattle.planner.proofs.rebuild.Tie as tie
@@ -28,7 +28,7 @@ same-length : tie.Need-same-length
 same-length c = search needs
 
 returns : tie.Need-returns
-returns c = weighs-refused Rebuild (given (c .before)) refl _ (said (c .before)) (c .if1 .taken)
+returns c = rebuilds-refused (given (c .before)) _ (said (c .before)) (c .if1 .taken)
 
 slice-aggregate-leg-table : tie.Need-slice-aggregate-leg-table
 slice-aggregate-leg-table c = search needs
@@ -50,14 +50,14 @@ same-length-2 : tie.Need-same-length-2
 same-length-2 c = search needs
 
 returns-2 : tie.Need-returns-2
-unfolding made
+unfolding made begunBy completedBy
 returns-2 c =
     let l = c .before .before .before .before .before .before in
     let A = given (l .before .before .before) in
     let e = not-refused (l .before .before) in
     let d = c .before .before .rebuild .ensures in
     let f = l .leg-table .ensures .fits (A .job .prices) in
-    weighs-accepted Rebuild A refl _ _ e (d .cost (A .job) f) (d .plan (A .job) f)
+    rebuilds-accepted A _ _ e (d .cost (A .job) f) (d .begun) (d .completed) (d .plan (A .job) f)
 
 pub rebuild-spec : {M : Type 1} → statement M
 rebuild-spec =

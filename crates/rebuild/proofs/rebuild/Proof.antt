@@ -4,7 +4,7 @@ use mathlib.Core.Path.{_≡_, sym}
 use mathlib.Core.List.{List}
 use lib.ListN.{length}
 use lib.Seq.{length-take-le}
-use Rattle.rebuild.proofs.Outcome.{few, arrangeable, rebuilt}
+use Rattle.rebuild.proofs.Outcome.{few, arrangeable, leaves}
 use borrow.Author.Needs.{needs}
 use Rattle.rebuild.proofs.rebuild.Statement.{statement}
 use Rattle.rebuild.proofs.rebuild.Tie as tie
@@ -55,7 +55,7 @@ returns c =
     let d = c .before .before .before .before .before .before in
     let s = start d in
     let a = s .args in
-    rebuilt (a .legs .now) (a .v) (a .n) (a .prices) (a .plan .now) (a .picks .now) (s .pre .0) (s .pre .1) (written d) (d .regions-of .result) (long d) (d .regions-of .ensures .0)
+    leaves (a .legs .now) (a .v) (a .n) (a .prices) (a .plan .now) (a .picks .now) (s .pre .0) (s .pre .1) (written d) (d .regions-of .result) (long d) (d .regions-of .ensures .0)
     _ (c .before .before .rearrange .result) (c .before .before .rearrange .ensures)
 
 pub rebuild-spec : {M : Type 1} → statement M

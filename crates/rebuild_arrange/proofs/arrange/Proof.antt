@@ -1,43 +1,42 @@
-use Prim.Native.Nat.{_+_}
-use mathlib.Core.Path.{refl, sym}
-use native.Mathlib.Omega.{arith}
-use lib.ListN.{replicate}
-use lib.Seq.{length-take-le}
+use mathlib.Core.Path.{refl}
+use native.Mathlib.Nat.{pos-of-ne-zero}
 use borrow.Author.Needs.{needs}
+use Rattle.rebuild_arrange.proofs.Arranging.{none-arranged}
 use Rattle.rebuild_arrange.proofs.arrange.Statement.{statement}
 use Rattle.rebuild_arrange.proofs.arrange.Tie as tie
 
-add-m : tie.Need-add-m
-add-m c = search needs
+cost-requires : tie.Need-cost-requires
+cost-requires c κs = search needs
 
-slice-aggregate-visit : tie.Need-slice-aggregate-visit
-slice-aggregate-visit c = search needs
+abbrev start : tie.After-cost → tie.Start
+start c = c .before .before .before .before .before
 
-slice-aggregate-visit-2 : tie.Need-slice-aggregate-visit-2
-slice-aggregate-visit-2 c = search needs
-
-array-borrow-prefix-scratch : tie.Need-array-borrow-prefix-scratch
-array-borrow-prefix-scratch c = let z = c .before .before .before .before .before .before .pre .0 .gapped .sizes in omega (arith, z .vehicles, z .stops)
-
-slice-aggregate-visit-3 : tie.Need-slice-aggregate-visit-3
-slice-aggregate-visit-3 c =
-    let s = c .before .before .before .before .before .before .before in
-    let z = s .pre .0 .gapped .sizes in
-    sym (length-take-le (s .args .v + s .args .n) (replicate 80 0) (omega (arith, z .vehicles, z .stops)))
-
-visit-requires : tie.Need-visit-requires
-visit-requires c κs =
-    let s = c .before .before .before .before .before .before .before .before in
-    let z = s .pre .0 .gapped .sizes in
-    (s .pre .0, (refl, refl, length-take-le (s .args .v + s .args .n) (replicate 80 0) (omega (arith, z .vehicles, z .stops)), s .pre .1))
+copy-plan-requires : tie.Need-copy-plan-requires
+copy-plan-requires c κs = search needs
 
 same-length : tie.Need-same-length
 same-length c = search needs
 
 returns : tie.Need-returns
-returns c = search needs
+returns c =
+    let y = c .before .before .copy-plan in
+    let x = c .before .before .before .before .before .cost in
+    let s = start (c .before .before .before .before .before) in
+    let a = s .args in
+    none-arranged (a .legs .now) (a .v) (a .n) (a .prices) (a .plan .now) (a .regions .now) (s .pre .0) (c .before .before .before .before .if1 .taken) (y .last .1 .0) (y .ensures) _ (x .ensures) refl refl
+
+arrange-gaps-requires : tie.Need-arrange-gaps-requires
+arrange-gaps-requires c κs =
+    let d = c .before .before in
+    let s = start d in
+    ((s .pre .0, pos-of-ne-zero (c .before .if1 .left)), (d .cost .ensures .table, s .pre .1))
+
+same-length-2 : tie.Need-same-length-2
+same-length-2 c = search needs
+
+returns-2 : tie.Need-returns-2
+returns-2 c = search needs
 
 pub arrange-spec : {M : Type 1} → statement M
 arrange-spec =
-    tie.close (tie.spec add-m slice-aggregate-visit slice-aggregate-visit-2 array-borrow-prefix-scratch slice-aggregate-visit-3
-    visit-requires same-length returns)
+    tie.close (tie.spec cost-requires copy-plan-requires same-length returns arrange-gaps-requires same-length-2 returns-2)

@@ -39,7 +39,7 @@ module _ (c : tie.After-arrange) where
   fits = let z = start .pre .gapped .sizes in omega (arith, z .vehicles, z .stops)
 
   long-enough : length best ≡ size
-  long-enough = c .arrange .ensures .kept .lent .long
+  long-enough = c .arrange .ensures .lent .long
 
   as-long : length (best ++ drop size zeros) ≡ 80
   as-long = length-append best (drop size zeros) ∙ omega (arith, long-enough, length-drop size zeros, fits)

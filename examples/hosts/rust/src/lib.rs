@@ -30,6 +30,9 @@
 //! assert_eq!(refusal, Refusal(12));
 //! eprintln!("{refusal}"); // refused, 12: a given stop does not exist, ..
 //!
+//! // A rebuild around stop 0 drains both stops, which can be put back in 5 ways: none, each alone, both in either order.
+//! assert_eq!(planner::rebuild(&job, &mut plan, &[0])?.completed, 5);
+//!
 //! // A caller who holds van 0 moves stop 1 to the end of its route, which makes it 14 dearer, and looks at the plan.
 //! let vans = 1;
 //! let to_the_end = Move { stop: 1, van: 0, place: 1 };
@@ -98,6 +101,17 @@ pub struct Totals {
     pub improving: u32,
     /// Whether the run settled. If not, the limit cut it.
     pub settled: bool,
+}
+
+/// What a rebuild answers besides its plan.
+#[derive(Clone, Copy, Debug, Default, PartialEq)]
+pub struct Walk {
+    /// The cost of the plan that is left.
+    pub cost: f64,
+    /// The fillings that were begun of the first region, that of the first given stop that has one.
+    pub begun: u64,
+    /// The arrangements that were completed, each different one counted once.
+    pub completed: u64,
 }
 
 /// What an arrival or a cancellation answers besides its plan.
@@ -174,19 +188,21 @@ pub fn two_opt(job: &Job, plan: &mut [u32], [first, second]: [u32; 2]) -> Result
     answer(number, cost)
 }
 
-/// Rebuilds a plan around one or two stops, and answers its cost.
+/// Rebuilds a plan around one or two stops: the stops of a stretch around each are put back in the best way. Where none of these stops
+/// is on a route nothing changes, and both counts are 0.
 #[rustfmt::skip]
-pub fn rebuild(job: &Job, plan: &mut [u32], given: &[u32]) -> Result<f64, Refusal> {
-    let mut cost = 0.0;
+pub fn rebuild(job: &Job, plan: &mut [u32], given: &[u32]) -> Result<Walk, Refusal> {
+    let mut walk = Walk::default();
     let number = unsafe {
         raw::planner_rebuild(
             job.vehicles.as_ptr(), job.vehicles.len(), job.stops.as_ptr(), job.stops.len(), job.locations,
             job.distances.as_ptr(), job.distances.len(), job.linear, job.quadratic, job.missed,
-            plan.as_mut_ptr(), plan.len(), given.as_ptr(), given.len(), &mut cost,
+            plan.as_mut_ptr(), plan.len(), given.as_ptr(), given.len(),
+            &mut walk.cost, &mut walk.begun, &mut walk.completed,
         )
     };
 
-    answer(number, cost)
+    answer(number, walk)
 }
 
 /// Writes the best of all plans, for at most 6 stops and 3 vehicles, and answers its cost. What the plan held is not read.

@@ -23,7 +23,8 @@ extern "C" {
     pub fn planner_rebuild(
         vehicles: *const u32, vehicles_len: usize, stops: *const u32, stops_len: usize, locations: u32,
         distances: *const u32, distances_len: usize, linear: u32, quadratic: u32, missed: u64,
-        plan: *mut u32, plan_len: usize, given: *const u32, given_len: usize, cost: *mut f64,
+        plan: *mut u32, plan_len: usize, given: *const u32, given_len: usize,
+        cost: *mut f64, begun: *mut u64, completed: *mut u64,
     ) -> u32;
     pub fn planner_exhaustive(
         vehicles: *const u32, vehicles_len: usize, stops: *const u32, stops_len: usize, locations: u32,

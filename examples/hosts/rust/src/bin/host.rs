@@ -51,6 +51,18 @@ fn show_run(limit: u32, plan: &mut [u32]) {
     show("solve", answer, plan);
 }
 
+/// A rebuild also answers how many fillings of its first region it began, and how many arrangements it completed.
+fn show_rebuild(given: &[u32], plan: &mut [u32]) {
+    let answer = planner::rebuild(&JOB, plan, given).map(|walk| {
+        format!(
+            " cost {} begun {} completed {}",
+            walk.cost, walk.begun, walk.completed
+        )
+    });
+
+    show("rebuild", answer, plan);
+}
+
 /// Answers the live set, which is that from before where the call is refused.
 fn show_change(name: &str, before: u64, answer: Result<Standing, Refusal>, plan: &[u32]) -> u64 {
     let live = answer.map_or(before, |standing| standing.live);
@@ -117,9 +129,10 @@ fn main() {
     show_cost("two_opt", planner::two_opt(&JOB, plan, [0, 0]), plan); // one stop twice: refused
     show_cost("two_opt", planner::two_opt(&JOB, plan, [0, 1]), plan);
     show_start_plan(plan);
-    show_cost("rebuild", planner::rebuild(&JOB, plan, &[0]), plan);
+    show_rebuild(&[], plan); // no stop: refused
+    show_rebuild(&[0], plan);
     show_start_plan(plan);
-    show_cost("rebuild", planner::rebuild(&JOB, plan, &[0, 1]), plan);
+    show_rebuild(&[0, 1], plan);
     show_cost("exhaustive", planner::exhaustive(&JOB, plan), plan);
     show_cost("pruned", planner::pruned(&JOB, plan), plan);
 

@@ -1,4 +1,0 @@
-pub mod Tests
-pub mod Considered
-pub mod Underway
-pub mod Meeting

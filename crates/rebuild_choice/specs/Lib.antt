@@ -1,2 +1,0 @@
-pub mod Scores
-pub mod Meeting

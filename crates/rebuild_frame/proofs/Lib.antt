@@ -1,0 +1,5 @@
+pub mod Codes
+pub mod Plans
+pub mod Listing
+pub mod Turns
+pub mod Filled

@@ -1,4 +1,0 @@
-pub mod Alone
-pub mod Spreading
-pub mod Walking
-pub mod Last

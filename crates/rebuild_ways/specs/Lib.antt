@@ -1,0 +1,2 @@
+-- What each function that fills a table of ways writes.
+pub mod Fills
