@@ -161,10 +161,7 @@ pub fn road_job(random: &mut Random) -> Job {
         stops: random.within(0..=20),
         locations: random.within(1..=3),
     };
-    let mut job = sized_job(random, sizes);
-
-    put_price(random, &mut job);
-    job
+    priced_job(random, sizes)
 }
 
 /// A job for a rebuild. Most have vehicles and stops for two regions.
@@ -178,6 +175,11 @@ pub fn walk_job(random: &mut Random) -> Job {
         stops: random.within(2..=24),
         locations: random.within(1..=30),
     };
+    priced_job(random, sizes)
+}
+
+/// A job of that size, which mostly has a price for driving.
+fn priced_job(random: &mut Random, sizes: Sizes) -> Job {
     let mut job = sized_job(random, sizes);
 
     put_price(random, &mut job);
