@@ -1,6 +1,8 @@
 // Specification, 14: an arrival. A stop is put where the plan then costs least, lower vehicle first and then earlier place, or stays
 // unplaced where that is strictly cheaper. A place is weighed by the two legs that come and the one that goes, and only the place that
 // wins is written.
+#![tactic(auto)]
+
 ghost use Rattle.std.specs.Prelude.{◌≡◌, suc, ◌≤◌, ◌<◌, length, get_or, take};
 ghost use Rattle.model.specs.Whole.{whole, IsWhole, amount};
 ghost use Rattle.model.specs.Job.{Job};
@@ -16,7 +18,7 @@ ghost use Rattle.arrival.specs.Places.{Insertable, triple, better, tried_on, Tri
 use model::Prices;
 
 // The best so far: the vehicle and the place of a stop, and what the plan costs with it there. Vehicle v stands for no place.
-#[derive(Drop)]
+#[derive(Clone, Copy)]
 pub struct Best {
     pub vehicle: usize,
     pub place: usize,

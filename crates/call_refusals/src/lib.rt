@@ -1,4 +1,6 @@
 // What each call is refused with: the tests of its arguments in the order of the table of refusals.
+#![tactic(auto)]
+
 ghost use Rattle.std.specs.Prelude.{◌≡◌, []};
 ghost use Rattle.model.specs.Job.{job_of};
 ghost use Rattle.model.specs.Refusals.{asking, naming, looking, moving, lengthening, tableless, refusal, Weigh, StartPlan, Rebuild, Exhaustive, Solve, Arrive, Cancel, View, MoveStop, Roadworks, unpriced, running};

@@ -1,4 +1,6 @@
 // The tests of a call's arguments: one function for each number of the table of refusals.
+#![tactic(auto)]
+
 ghost use Rattle.std.specs.Prelude.{◌≡◌, ◌≤◌, ◌<◌};
 ghost use Rattle.model.specs.Lists.{all_below};
 ghost use Rattle.model.specs.Plan.{Lent, Sizes};

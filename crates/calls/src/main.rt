@@ -1,4 +1,6 @@
 // Reads call sheets from standard input, one after another up to its end, runs each and prints its answer.
+#![tactic(auto)]
+
 ghost use Rattle.std.specs.Prelude.{◌≡◌, ◌≤◌, length};
 ghost use Rattle.sheet_lines.specs.Printed.{most_for_sheet};
 ghost use Rattle.calls.specs.Rest.{Ready, Keeps, Turned, AnswersAll};
@@ -11,7 +13,7 @@ use sheet_answer::SheetRead;
 const LONGEST: usize = 108065;
 
 // Where the bytes that are left to answer begin and end in the buffer; or that reading failed.
-#[derive(Drop)]
+#[derive(Clone, Copy)]
 enum Left {
     Bytes(usize, usize),
     Nothing,
@@ -19,7 +21,7 @@ enum Left {
 
 // A sheet was answered: where the bytes that are left begin and end, and how many bytes are printed. Or none stands there, and so many
 // bytes are printed; or no bytes are left; or reading failed.
-#[derive(Drop)]
+#[derive(Clone, Copy)]
 enum Outcome {
     Answered(usize, usize, usize),
     Refused(usize),
@@ -28,7 +30,7 @@ enum Outcome {
 }
 
 // How many bytes were printed: all sheets were answered, or those up to a place where none stands; or reading or writing failed.
-#[derive(Drop)]
+#[derive(Clone, Copy)]
 enum Ended {
     All(u64),
     Refused(u64),

@@ -1,4 +1,6 @@
 // A cancellation: the stop leaves its route, where it is on one, and is no longer counted as missed.
+#![tactic(auto)]
+
 ghost use Rattle.std.specs.Prelude.{◌≡◌};
 ghost use Rattle.model.specs.Whole.{whole};
 ghost use Rattle.model.specs.Job.{Job};

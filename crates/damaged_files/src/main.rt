@@ -1,4 +1,6 @@
 // Prints, for each file that an argument names, its name and what the shuttle program prints for it.
+#![tactic(auto)]
+
 use libc::STDOUT_FILENO;
 
 // A file's name on a line, and what is printed for the file.

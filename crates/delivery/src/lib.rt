@@ -1,4 +1,6 @@
 // What routes, missed stops and plans cost.
+#![tactic(auto)]
+
 ghost use Rattle.std.specs.Prelude.{◌≡◌, ◌-◌, ◌≤◌};
 ghost use Rattle.model.specs.Whole.{whole};
 ghost use Rattle.model.specs.Plan.{placed, decode, Lent, Sizes};

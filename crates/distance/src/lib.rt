@@ -1,4 +1,6 @@
 // Distances: the job's own table, the leg table that a run looks up once, and the length of a route over it.
+#![tactic(auto)]
+
 ghost use Rattle.std.specs.Prelude.{◌≡◌, ℕ, ◌+◌, ◌/◌, ◌≤◌, ◌<◌, length, true, List};
 ghost use Rattle.model.specs.Job.{Job, job_of, entry};
 ghost use Rattle.model.specs.Legs.{leaves, reaches, leg_at, LegTable};

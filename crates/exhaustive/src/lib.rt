@@ -1,4 +1,6 @@
 // The exhaustive solver: the choice among all arrangements of all stops on all vehicles.
+#![tactic(auto)]
+
 ghost use Rattle.std.specs.Prelude.{◌≡◌, ◌+◌, ◌≤◌, length};
 ghost use Rattle.model.specs.Whole.{whole};
 ghost use Rattle.model.specs.Job.{Job};

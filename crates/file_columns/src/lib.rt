@@ -1,11 +1,13 @@
 // Numbers in columns: reading the fields of a job file, and writing what the program prints.
+#![tactic(auto)]
+
 ghost use Rattle.std.specs.Prelude.{◌≡◌, ◌+◌, ◌<◌, ◌≤◌, ◌^◌, ◌∷◌, length};
 ghost use Rattle.file_columns.specs.Field.{Next, FieldAt, NumberAt, last_column};
 ghost use Rattle.file_columns.specs.Put.{written, Puttable};
 ghost use Rattle.model.specs.File.{dash, digits, justified, columns, signed_columns};
 
 // What a field of 14 columns holds.
-#[derive(Drop)]
+#[derive(Clone, Copy)]
 pub enum Field {
     Number(u64),
     Bad,

@@ -1,9 +1,11 @@
 // Reading standard input, or another descriptor, into a buffer.
+#![tactic(auto)]
+
 ghost use Rattle.std.specs.Prelude.{◌≤◌, length};
 ghost use Rattle.file_input.specs.Filling.{FilledFrom, Shifted, Refilled};
 
 // How many bytes of a buffer are filled, or that a read failed.
-#[derive(Drop)]
+#[derive(Clone, Copy)]
 pub enum Filled {
     Bytes(usize),
     Failed,

@@ -1,5 +1,7 @@
 // Reading a job file. A file is first checked whole, and only then are its numbers written into the lists that are lent for them,
 // so that a refusal leaves the lists as they were.
+#![tactic(auto)]
+
 ghost use Rattle.file_lines.specs.Standing.{Says};
 ghost use Rattle.file_job.specs.Reading.{FirstAt, TablesAt, DrawsAt, CheckedAt, buffers, Room, Loadable, Loads, ReadAt, ReadWhole};
 
@@ -7,7 +9,7 @@ use file_columns::Field;
 use model::Prices;
 
 // The numbers of a file's first line.
-#[derive(Drop)]
+#[derive(Clone, Copy)]
 pub struct FirstNumbers {
     pub vehicles: u32,
     pub stops: u32,
@@ -19,21 +21,21 @@ pub struct FirstNumbers {
     pub limit: u32,
 }
 
-#[derive(Drop)]
+#[derive(Clone, Copy)]
 pub enum FirstLine {
     Numbers(FirstNumbers),
     Bad,
 }
 
 // How many draws a file has.
-#[derive(Drop)]
+#[derive(Clone, Copy)]
 pub enum Draws {
     Count(usize),
     Bad,
 }
 
 // A task without its lists: how long they are (`vehicles` counts pairs), the other numbers, and the position after its file.
-#[derive(Drop)]
+#[derive(Clone, Copy)]
 pub struct Header {
     pub vehicles: usize,
     pub stops: usize,
@@ -45,7 +47,7 @@ pub struct Header {
     pub end: usize,
 }
 
-#[derive(Drop)]
+#[derive(Clone, Copy)]
 pub enum TaskRead {
     Read(Header),
     Refused(u32),

@@ -1,4 +1,6 @@
 // Lines of numbers in columns: whether so many stand at a position, and their numbers written into a list that is lent for them.
+#![tactic(auto)]
+
 ghost use Rattle.file_lines.specs.Standing.{Says, FieldsAt, LineAt, LinesAt, Fillable, Filled};
 
 use file_columns::Field;

@@ -1,4 +1,6 @@
 // The columns that the program prints for a run and for a refusal.
+#![tactic(auto)]
+
 ghost use Rattle.std.specs.Prelude.{◌≡◌, cond, [], ◌∷◌, ◌+◌, ◌*◌, ◌≤◌, ◌<◌, length};
 ghost use Rattle.model.specs.declared.Solved.TheVariants.{Ran};
 ghost use Rattle.model.specs.Plan.{decode};

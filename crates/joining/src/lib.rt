@@ -1,4 +1,6 @@
 // Writing plans: the plan form of empty routes, one with two routes replaced, and one with a stop put in or taken out.
+#![tactic(auto)]
+
 ghost use Rattle.std.specs.Prelude.{◌≡◌, [], ◌∷◌, ◌++◌, ◌+◌, ◌≤◌, ◌<◌, length, take, drop, replicate};
 ghost use Rattle.model.specs.Lists.{concat, change};
 ghost use Rattle.model.specs.Plan.{unused, route_of, encode, decode, placed, Lent, Sizes};

@@ -1,6 +1,8 @@
 // Worked figures of the specification, through the code. Prints what the walk over the arrangements counts, the fillings of the first gap
 // that it began and the arrangements that it completed: of 7 stops in one gap, of 6 in two gaps, of no gap, and of 6 on three vehicles. The
 // row for a pair on one route, 0 1 2 3 4 with stops 0 and 4, is checked.
+#![tactic(auto)]
+
 ghost use Rattle.std.specs.Prelude.{◌≡◌, [], ◌∷◌, ◌≤◌, length};
 ghost use Rattle.model.specs.Plan.{decode};
 ghost use Rattle.model.specs.Region.{drained};

@@ -89,7 +89,7 @@ pub none-over-nil : NoneOver []
 none-over-nil = record { small = λ i. omega arith }
 
 pub none-over-cons : {n : ℕ} {ns : List ℕ} → n ≤ largest_number → NoneOver ns → NoneOver (n ∷ ns)
-none-over-cons {n} {ns} l o = record { small = λ i. elim i [ zero ↦ l | suc j ↦ o.small j ] }
+none-over-cons {n} {ns} l o = record { small = λ i. elim i as (λ (k : ℕ). get_or (n ∷ ns) k 0 ≤ largest_number) [ zero ↦ l | suc j ↦ o.small j ] }
 
 pub none-over-append : {ns ms : List ℕ} → NoneOver ns → NoneOver ms → NoneOver (ns ++ ms)
 none-over-append {ns} {ms} a b = record { small = each_append (λ n. n ≤ largest_number) ns ms a.small b.small }
@@ -111,7 +111,7 @@ pub fitting-nil : Fitting []
 fitting-nil = record { fits = λ i. omega arith }
 
 pub fitting-cons : {n : ℕ} {ns : List ℕ} → n < 10 ^ 14 → Fitting ns → Fitting (n ∷ ns)
-fitting-cons {n} {ns} l f = record { fits = λ i. elim i [ zero ↦ l | suc j ↦ f.fits j ] }
+fitting-cons {n} {ns} l f = record { fits = λ i. elim i as (λ (k : ℕ). get_or (n ∷ ns) k 0 < 10 ^ 14) [ zero ↦ l | suc j ↦ f.fits j ] }
 
 fitting-tail : {n : ℕ} {ns : List ℕ} → Fitting (n ∷ ns) → Fitting ns
 fitting-tail f = record { fits = λ i. f.fits (suc i) }

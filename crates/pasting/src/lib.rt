@@ -1,4 +1,6 @@
 // Writing lists: parts copied one after another into a list that is lent.
+#![tactic(auto)]
+
 ghost use Rattle.std.specs.Prelude.{◌≡◌, ◌++◌, reverse, ◌+◌, ◌≤◌, length, replicate};
 ghost use Rattle.pasting.specs.Put.{put};
 

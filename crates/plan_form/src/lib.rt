@@ -1,4 +1,6 @@
 // The test of the plan form.
+#![tactic(auto)]
+
 ghost use Rattle.std.specs.Prelude.{◌≡◌, ◌&&◌, ◌+◌, ◌≤◌, length, replicate};
 ghost use Rattle.model.specs.Lists.{same, all_below, all_once};
 ghost use Rattle.model.specs.Plan.{unused, is_plan, Sizes};

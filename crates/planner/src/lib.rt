@@ -1,6 +1,8 @@
 // The public calls, under one name. Each tests its arguments and promises what `Calls` of model defines: a refusal by its number, with
 // the lent plan as it was, or the values, with the new plan in the lent one. None has a precondition. Those that came later stand in
 // crates of their own, and are passed on.
+#![tactic(auto)]
+
 ghost use Rattle.std.specs.Prelude.{[], ◌∷◌};
 ghost use Rattle.model.specs.Job.{job_of};
 ghost use Rattle.model.specs.Refusals.{asking, Weigh, TwoOpt, Exhaustive, Pruned, unpriced, running};

@@ -1,5 +1,7 @@
 // The calls for hosts in C or Rust, which `include/planner.h` declares: each passes its arguments to the call of crate `planner`,
 // returns the number of the refusal, 0 for none, and writes an accepted call's values through the references that it was lent.
+#![tactic(auto)]
+
 ghost use Rattle.std.specs.Prelude.{◌≡◌, [], ◌∷◌};
 ghost use Rattle.model.specs.Job.{job_of};
 ghost use Rattle.model.specs.Refusals.{asking, naming, looking, moving, lengthening, tableless, Weigh, TwoOpt, Exhaustive, Pruned, Arrive, Cancel, unpriced, running};

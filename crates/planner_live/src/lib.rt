@@ -1,4 +1,6 @@
 // The public calls while jobs come and go: a stop is added, or cancelled. Crate `planner` passes them on.
+#![tactic(auto)]
+
 ghost use Rattle.model.specs.Job.{job_of};
 ghost use Rattle.model.specs.Refusals.{naming, Arrive, Cancel};
 ghost use Rattle.model.specs.Calls.{Changes};

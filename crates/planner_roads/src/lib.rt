@@ -1,4 +1,6 @@
 // The public call about a road that gets longer. Crate `planner` passes it on.
+#![tactic(auto)]
+
 ghost use Rattle.model.specs.Job.{job_of};
 ghost use Rattle.model.specs.Roads.{road_from};
 ghost use Rattle.model.specs.Refusals.{lengthening};

@@ -1,4 +1,6 @@
 // The public calls of a caller who holds a set of vans: a view of a plan, and a move of a stop. Crate `planner` passes them on.
+#![tactic(auto)]
+
 ghost use Rattle.model.specs.Job.{job_of};
 ghost use Rattle.model.specs.Refusals.{looking, moving, tableless};
 ghost use Rattle.model.specs.Vans.{move_to};

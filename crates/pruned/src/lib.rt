@@ -1,4 +1,6 @@
 // The pruned solver: from the empty plan, a stop is appended to a route only if the routes then cost less than the whole plan did.
+#![tactic(auto)]
+
 ghost use Rattle.std.specs.Prelude.{◌≡◌, ◌+◌, ◌<◌, length};
 ghost use Rattle.model.specs.Whole.{amount, whole};
 ghost use Rattle.model.specs.Job.{Job};

@@ -1,4 +1,6 @@
 // The rebuild: the stops of the regions around the picks are arranged anew, and the best arrangement takes the plan's place.
+#![tactic(auto)]
+
 ghost use Rattle.std.specs.Prelude.{◌≤◌, length};
 ghost use Rattle.delivery.specs.Costs.{Ready};
 ghost use Rattle.rebuild.specs.Leaves.{Leaves};

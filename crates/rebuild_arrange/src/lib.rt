@@ -1,4 +1,6 @@
 // All arrangements of some stops in up to three gaps of a plan, and the best of them.
+#![tactic(auto)]
+
 ghost use Rattle.std.specs.Prelude.{◌≡◌, ◌+◌, ◌<◌, length};
 ghost use Rattle.model.specs.Whole.{whole};
 ghost use Rattle.model.specs.Plan.{decode};

@@ -1,5 +1,7 @@
 // The frame of a walk: the gaps, the plan and the drained stops in one array, so that a call of the walk passes one address for all that
 // is needed to write the plan of a word.
+#![tactic(auto)]
+
 ghost use Rattle.std.specs.Prelude.{◌≡◌, ◌+◌, ◌≤◌, ◌<◌, length, take};
 ghost use Rattle.model.specs.Lists.{lower};
 ghost use Rattle.model.specs.Plan.{decode};
@@ -105,7 +107,7 @@ pub fn is_lower(frame: &[u32; 104], word: u64, other: u64) -> bool
 }
 
 // The stops that are drained so far: how many, and the word that puts each back where it was.
-#[derive(Drop)]
+#[derive(Clone, Copy)]
 struct Listed {
     count: usize,
     word: u64,

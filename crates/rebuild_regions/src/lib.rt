@@ -1,4 +1,6 @@
 // The regions of a rebuild: which stretches of which routes are drained.
+#![tactic(auto)]
+
 ghost use Rattle.std.specs.Prelude.{◌≡◌, true, [], ◌+◌, ◌*◌, ◌≤◌, length, take, drop};
 ghost use Rattle.model.specs.Plan.{decode, vehicle_of, is_placed, Lent, Sizes};
 ghost use Rattle.model.specs.Region.{keep_picks, region_from, region_to, region_of, regions};

@@ -1,4 +1,6 @@
 // Surveys of gaps: what is known of each gap of a plan in advance.
+#![tactic(auto)]
+
 ghost use Rattle.std.specs.Prelude.{◌≡◌, ◌+◌, ◌*◌, ◌≤◌, ◌<◌, length};
 ghost use Rattle.model.specs.Legs.{LegTable};
 ghost use Rattle.distance.specs.Ways.{Drivable};
@@ -7,14 +9,14 @@ ghost use Rattle.rebuild_survey.specs.Ways.{Stepped, Measured};
 ghost use Rattle.rebuild_survey.specs.Surveys.{Stored, Surveyed, Unsurveyed};
 
 // A way from a place: its length, and the place where it ends.
-#[derive(Drop)]
+#[derive(Clone, Copy)]
 pub struct Way {
     pub length: u32,
     pub last: usize,
 }
 
 // What is known of a gap: the places before and after it, the way to the one and the way on from the other.
-#[derive(Drop)]
+#[derive(Clone, Copy)]
 pub struct Gap {
     pub before: usize,
     pub after: usize,

@@ -20,8 +20,8 @@ abbrev pub way_at : List Float → ℕ → ℕ → ℕ
 way_at ways r c = cell_at ways (16 * r + c)
 
 -- the length of gap q's route besides what fills the gap
-abbrev pub field_own : List Float → ℕ → ℕ
-field_own ways q = cell_at ways (256 + q)
+abbrev pub own_at : List Float → ℕ → ℕ
+own_at ways q = cell_at ways (256 + q)
 
 -- what that route costs while the gap is empty
 abbrev pub vacant_at : List Float → ℕ → ℕ
@@ -50,7 +50,7 @@ gone_by ways r (s ∷ x) = way_at ways r s + gone_by ways s x
 -- the length of gap q's route with x in the gap
 unfoldable pub route_by : List Float → ℕ → List ℕ → ℕ
 unfolding way_by
-route_by ways q x = field_own ways q + way_by ways (8 + q) x (8 + q)
+route_by ways q x = own_at ways q + way_by ways (8 + q) x (8 + q)
 
 -- what the routes of the gaps from q on cost with these sequences in them
 unfoldable pub driven_by : List Float → ℕ → Filling → ℕ

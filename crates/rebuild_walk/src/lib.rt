@@ -3,6 +3,8 @@
 //
 // A word is a number whose digits, of base 16, tell the walk's way: 8 + q where it began gap q, i where it placed the i-th drained stop. Its
 // last digit is the row of the table of ways at which the walk stands.
+#![tactic(auto)]
+
 ghost use Rattle.std.specs.Prelude.{◌≡◌, ◌+◌, ◌*◌, ◌^◌, ◌<◌, ◌≤◌, length, slice_set};
 ghost use Rattle.model.specs.StopSet.{stops_of};
 ghost use Rattle.rebuild_tables.specs.Frame.{placed_count, form_of, Framed, Placeable};

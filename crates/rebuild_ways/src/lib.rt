@@ -1,4 +1,6 @@
 // The table of ways that a walk reads: whole numbers as f64, so that no number is converted on the way.
+#![tactic(auto)]
+
 ghost use Rattle.std.specs.Prelude.{◌≡◌, ◌+◌, ◌≤◌, ◌<◌};
 ghost use Rattle.model.specs.Whole.{exact, whole, amount, IsWhole};
 ghost use Rattle.model.specs.Legs.{LegTable, Affordable};

@@ -1,4 +1,6 @@
 // Words: how some stops are placed in gaps of a plan one after another, and the plan that a word stands for.
+#![tactic(auto)]
+
 ghost use Rattle.std.specs.Prelude.{◌≡◌, ◌+◌, ◌*◌, ◌≤◌, ◌<◌, length};
 ghost use Rattle.model.specs.Lists.{position};
 ghost use Rattle.model.specs.Plan.{encode, decode, placed};

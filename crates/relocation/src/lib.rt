@@ -1,5 +1,7 @@
 // Specification, 16: a move. A stop leaves its route, where it is on one, and is put in at a place that is counted after that. The change
 // in cost is that of the one or two routes that change, and of the missed part where the stop was unplaced: no other route is weighed.
+#![tactic(auto)]
+
 ghost use Rattle.std.specs.Prelude.{◌≡◌, ◌*◌, ◌^◌, ◌≤◌, ◌<◌};
 ghost use Rattle.std.proofs.Math.IntN.{sub_ℕ};
 ghost use Rattle.model.specs.Whole.{exact};

@@ -1,4 +1,6 @@
 // The tests of a road that gets longer: refusals 6 and 7 as far as they speak of it.
+#![tactic(auto)]
+
 ghost use Rattle.std.specs.Prelude.{◌≡◌, false};
 ghost use Rattle.model.specs.Roads.{bad_road, bad_entry};
 ghost use Rattle.distance.specs.Table.{Square};

@@ -1,5 +1,7 @@
 // Specification, 18: roadworks. One walk over the plan counts the uses of a road and adds the metres of all routes, and from these two
 // comes the ceiling on what the longer road can cost.
+#![tactic(auto)]
+
 ghost use Rattle.std.specs.Prelude.{◌≡◌, ◌/◌, ◌≤◌, length};
 ghost use Rattle.model.specs.Job.{job_of};
 ghost use Rattle.model.specs.Plan.{decode};
@@ -10,7 +12,7 @@ ghost use Rattle.roads.specs.Tallies.{Mapped, Walkable, RouteTally, PlanTally, c
 use model::{Prices, Road};
 
 // How often a road is used, and the metres driven: on a route, or on all routes of a plan.
-#[derive(Drop)]
+#[derive(Clone, Copy)]
 struct Tally {
     uses: u32,
     metres: u32,

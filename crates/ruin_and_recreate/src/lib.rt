@@ -1,4 +1,6 @@
 // The run: rounds from the start plan up to the end rule.
+#![tactic(auto)]
+
 ghost use Rattle.model.specs.Plan.{decode};
 ghost use Rattle.nearest_neighbor.specs.Answers.{Started};
 ghost use Rattle.run_round.specs.Standing.{Course, CostOf};

@@ -1,4 +1,6 @@
 // The draws of a run, and what a round draws from them for its region pass.
+#![tactic(auto)]
+
 ghost use Rattle.std.specs.Prelude.{◌≡◌, ◌%◌, ◌<◌, length};
 ghost use Rattle.model.specs.Run as Run;
 ghost use Rattle.run_draws.specs.Picks.{Pickable, Picked};

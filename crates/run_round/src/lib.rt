@@ -1,4 +1,6 @@
 // One round: the two-opt pass at a drawn stop, the rebuild around the picks, and what is carried on to the next.
+#![tactic(auto)]
+
 ghost use Rattle.std.specs.Prelude.{◌≡◌, ℕ, ◌<◌, ◌≤◌, cond, ltb};
 ghost use Rattle.model.specs.Whole.{whole, exact};
 ghost use Rattle.run_round.specs.Standing.{Countable, Counted, Course, Standing, Rounded};
@@ -7,7 +9,7 @@ use model::{Averages, Prices};
 
 // What a run carries from round to round beside its plan: the averages, what the plan costs, the rounds done, the improving ones among them,
 // and the place in the draws.
-#[derive(Drop)]
+#[derive(Clone, Copy)]
 pub struct Progress {
     pub averages: Averages,
     pub cost: f64,

@@ -1,4 +1,6 @@
 // Specification, 8: the two averages of a run, and the rule that stops it.
+#![tactic(auto)]
+
 ghost use Rattle.std.specs.Prelude.{◌≡◌, ◌≤◌};
 ghost use Rattle.model.specs.Settle.{no_averages, settles};
 ghost use Rattle.model.specs.Settle as Settle;

@@ -1,4 +1,6 @@
 // Call sheets: a call's number, its lists and a job file are read from bytes, the call is run, and its answer is printed to bytes.
+#![tactic(auto)]
+
 ghost use Rattle.std.specs.Prelude.{◌≡◌, ◌≤◌, length};
 ghost use Rattle.model.specs.Run.{task_for};
 ghost use Rattle.model.specs.Job.{job_of};
@@ -13,7 +15,7 @@ use model::Prices;
 use sheet_head::{Head, HeadRead};
 
 // The position after a sheet that was answered, and how many bytes are printed for it; or how many are where no sheet stands.
-#[derive(Drop)]
+#[derive(Clone, Copy)]
 pub enum SheetRead {
     Answered(usize, usize),
     Bad(usize),

@@ -1,4 +1,6 @@
 // The public calls, made for a call sheet and their answers printed.
+#![tactic(auto)]
+
 ghost use Rattle.std.specs.Prelude.{◌≡◌, [], ◌∷◌, length};
 ghost use Rattle.model.specs.Job.{job_of};
 ghost use Rattle.model.specs.Refusals.{asking, Weigh, StartPlan, TwoOpt, Rebuild, Exhaustive, Pruned, Solve, Arrive, Cancel, MoveStop, unpriced, running, looking, tableless, lengthening};

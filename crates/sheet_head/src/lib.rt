@@ -1,4 +1,6 @@
 // What stands before the job file of a call sheet: the call's number, and its lines of given numbers and of a plan.
+#![tactic(auto)]
+
 ghost use Rattle.std.specs.Prelude.{◌≡◌, ◌≤◌};
 ghost use Rattle.sheet_head.specs.Form.{last_call, has_given, least_given, most_given, has_plan, longest_plan};
 ghost use Rattle.sheet_head.specs.Reading.{CountAt, ListAt, ListIf, Fits, Laid, CallAt, Lent, HeadAt};
@@ -11,13 +13,13 @@ const LEAST_GIVEN: [usize; 13] = [0, 0, 0, 2, 0, 0, 0, 0, 3, 3, 1, 4, 3];
 const MOST_GIVEN: [usize; 13] = [0, 0, 0, 2, 8, 0, 0, 0, 3, 3, 1, 4, 3];
 
 // A line of numbers that was read: how many there are, and the position after it.
-#[derive(Drop)]
+#[derive(Clone, Copy)]
 pub struct Listed {
     pub count: usize,
     pub end: usize,
 }
 
-#[derive(Drop)]
+#[derive(Clone, Copy)]
 pub enum ListRead {
     Read(Listed),
     Bad,
@@ -25,7 +27,7 @@ pub enum ListRead {
 
 // What stands before the job file of a sheet: the call's number, how many numbers are given, how many numbers stand in the
 // line of the plan (0 where there is none), and where the job file begins.
-#[derive(Drop)]
+#[derive(Clone, Copy)]
 pub struct Head {
     pub call: u32,
     pub given: usize,
@@ -33,7 +35,7 @@ pub struct Head {
     pub end: usize,
 }
 
-#[derive(Drop)]
+#[derive(Clone, Copy)]
 pub enum HeadRead {
     Read(Head),
     Bad,

@@ -1,4 +1,6 @@
 // What is printed for the answer of a single call.
+#![tactic(auto)]
+
 ghost use Rattle.std.specs.Prelude.{◌≤◌, length};
 ghost use Rattle.file_printing.specs.Printing.{Prints};
 ghost use Rattle.sheet_lines.specs.Printed.{printed_weighed, printed_rebuilt, printed_changed, printed_viewed, printed_moved, printed_raised, Printable, Exactly, WalkedExactly, StandsExactly};

@@ -1,5 +1,7 @@
 // The lines that the program prints for the answer of a single call: a cost, a plan, a cost and the counts of a walk, the numbers of a run,
 // live stops and a cost, a set of stops, a change in cost, a rise in cost.
+#![tactic(auto)]
+
 ghost use Rattle.std.specs.Prelude.{◌≡◌, ◌++◌, ◌+◌, ◌*◌, ◌≤◌, length};
 ghost use Rattle.model.specs.File.{line};
 ghost use Rattle.model.specs.Whole.{IsWhole};

@@ -1,4 +1,6 @@
 // Reads a job file from standard input, plans it, and prints the vehicle of each stop and the numbers of the run.
+#![tactic(auto)]
+
 use libc::STDIN_FILENO;
 
 fn main() {

@@ -1,4 +1,6 @@
 // What the shuttle program does with the bytes that it reads: it reads the task, runs it and prints the answer, from one slice to another.
+#![tactic(auto)]
+
 ghost use Rattle.std.specs.Prelude.{◌≡◌, ◌⊎◌, ◌≤◌, length};
 ghost use Rattle.model.specs.File.{printed_task};
 ghost use Rattle.model.specs.Run.{task_for};

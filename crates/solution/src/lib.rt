@@ -1,4 +1,6 @@
 // Plans: reading the routes of the plan form, and finding a stop.
+#![tactic(auto)]
+
 ghost use Rattle.std.specs.Prelude.{◌≡◌, ℕ, ◌+◌, ◌≤◌, ◌<◌, length, take};
 ghost use Rattle.model.specs.Lists.{sum, concat, lower, position, count, Once};
 ghost use Rattle.solution.specs.Sets.{SetOf};
@@ -97,13 +99,13 @@ pub fn position(part: &[u32], stop: u32) -> usize
 }
 
 // Where a stop is: its vehicle, and its position on that vehicle's route.
-#[derive(Drop)]
+#[derive(Clone, Copy)]
 pub struct Place {
     pub vehicle: usize,
     pub position: usize,
 }
 
-#[derive(Drop)]
+#[derive(Clone, Copy)]
 pub enum Found {
     At(Place),
     Nowhere,

@@ -1,4 +1,6 @@
 // A set of stops is one 64-bit number: stop s is in it where its digit s, of two, is 1.
+#![tactic(auto)]
+
 ghost use Rattle.std.specs.Prelude.{◌≡◌, ◌≤◌, ◌<◌};
 ghost use Rattle.model.specs.Lists.{up_from};
 ghost use Rattle.model.specs.StopSet.{contains, excluding, including, stops_of};

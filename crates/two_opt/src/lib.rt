@@ -1,4 +1,6 @@
 // Two-opt: a pair of stops, and the pass over all pairs of ten stops.
+#![tactic(auto)]
+
 ghost use Rattle.std.specs.Prelude.{◌≡◌, ℕ, ◌<◌, length, take};
 ghost use Rattle.model.specs.Lists.{pairs, Once};
 ghost use Rattle.model.specs.Job.{Job};

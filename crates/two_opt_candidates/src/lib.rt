@@ -1,6 +1,8 @@
 // The candidates of a pair of stops on two routes, the tail exchange of Potvin and Rousseau 1995 widened by reversals and
 // exchanged heads: they are numbered, and weighed by the lengths of the two routes alone. The binary digits of a number say: the
 // first route reversed (32), the second (16), the first cut after its stop (8), the second (4), heads exchanged (2), tails (1).
+#![tactic(auto)]
+
 ghost use Rattle.std.specs.Prelude.{◌≡◌, ◌+◌, ◌≤◌, ◌<◌};
 ghost use Rattle.model.specs.Whole.{IsWhole};
 ghost use Rattle.model.specs.Legs.{LegTable};
@@ -11,7 +13,7 @@ use model::Prices;
 use two_opt_cuts::{Cut, Cuts, End, Ends};
 
 // What a candidate's number says of two rows: where they are cut, and whether each route keeps its own head and its own tail.
-#[derive(Drop)]
+#[derive(Clone, Copy)]
 pub struct Choice {
     pub first: usize,
     pub second: usize,
@@ -33,7 +35,7 @@ pub fn choice_of(code: usize, i: usize, j: usize) -> Choice
 }
 
 // The best candidate so far: its number, and the price of its two routes.
-#[derive(Drop)]
+#[derive(Clone, Copy)]
 pub struct Best {
     pub code: usize,
     pub price: f64,

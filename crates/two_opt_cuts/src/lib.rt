@@ -1,5 +1,7 @@
 // Routes that are cut before or after a stop: their ends are measured once, out and back and on each of two vehicles, so that
 // the length of a route that is joined from two ends is had by one leg more.
+#![tactic(auto)]
+
 ghost use Rattle.std.specs.Prelude.{◌≡◌, List, [], ◌∷◌, ◌++◌, reverse, ℕ, ◌<◌, length};
 ghost use Rattle.model.specs.Plan.{Route};
 ghost use Rattle.model.specs.Legs.{LegTable};
@@ -7,7 +9,7 @@ ghost use Rattle.distance.specs.Ways.{Drivable};
 ghost use Rattle.two_opt_cuts.specs.Ends.{EndOf, EndsOf, Short, Shorts, CutBy, reversed_cuts};
 
 // The stops of a route from a vehicle's place up to a cut: the place at the cut, the legs out to it, and the legs back from it.
-#[derive(Drop)]
+#[derive(Clone, Copy)]
 pub struct End {
     pub joint: usize,
     pub out: u32,
@@ -15,21 +17,21 @@ pub struct End {
 }
 
 // The same stops on each of two vehicles.
-#[derive(Drop)]
+#[derive(Clone, Copy)]
 pub struct Ends {
     pub first: End,
     pub second: End,
 }
 
 // A route that is cut: the ends on both sides of the cut.
-#[derive(Drop)]
+#[derive(Clone, Copy)]
 pub struct Cut {
     pub head: Ends,
     pub tail: Ends,
 }
 
 // A route cut before a stop, and cut after it.
-#[derive(Drop)]
+#[derive(Clone, Copy)]
 pub struct Cuts {
     pub before: Cut,
     pub after: Cut,

@@ -1,4 +1,6 @@
 // The two-opt move of a pair of stops on two routes: of the candidates only the kept one is written.
+#![tactic(auto)]
+
 ghost use Rattle.std.specs.Prelude.{◌≡◌, ◌++◌, ◌+◌, ◌≤◌, length, take, drop};
 ghost use Rattle.model.specs.Job.{Job};
 ghost use Rattle.model.specs.Plan.{route_of, encode, decode, Lent};

@@ -1,4 +1,6 @@
 // The two new forms of a route that two-opt tries for a pair of stops on it.
+#![tactic(auto)]
+
 ghost use Rattle.std.specs.Prelude.{◌≡◌, ◌≤◌, ◌<◌, length};
 ghost use Rattle.model.specs.TwoOpt.{ends_exchanged, inverted};
 ghost use Rattle.pasting.specs.Put.{put};

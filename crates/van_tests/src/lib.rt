@@ -1,4 +1,6 @@
 // The tests of refusal 15: the set of vans that a caller holds, and a move by that caller.
+#![tactic(auto)]
+
 ghost use Rattle.std.specs.Prelude.{◌≡◌, false, ◌≤◌, ◌<◌};
 ghost use Rattle.model.specs.Plan.{decode, Lent, Sizes};
 ghost use Rattle.model.specs.StopSet.{contains};

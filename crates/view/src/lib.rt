@@ -1,5 +1,7 @@
 // Specification, 16: what a caller who holds a set of vans sees of a plan: the routes of other vans are emptied, and the unplaced stops
 // are told as a set.
+#![tactic(auto)]
+
 ghost use Rattle.std.specs.Prelude.{◌≡◌, ◌+◌, map, length};
 ghost use Rattle.model.specs.Lists.{concat};
 ghost use Rattle.model.specs.Plan.{encode, decode, Lent, Sizes};

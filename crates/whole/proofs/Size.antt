@@ -82,6 +82,8 @@ pub data Is : Float → ℕ → Type 0 where
 is-of : (x : Float) (a : ℕ) → HasValue x false a 1 → Is x a
 is-of (fin false m e) a v = is m e a v.1
 is-of (fin true m e) a v = absurd (true≢false v.0)
+is-of lib.Ieee.nan a v = elim v [ ]
+is-of (lib.Ieee.inf _) a v = elim v [ ]
 
 pub is_whole : (n : ℕ) → n ≤ exact → Is (whole n) n
 unfolding of_int

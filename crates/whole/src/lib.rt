@@ -1,4 +1,6 @@
 // Costs are f64 that hold whole numbers up to 2 ^ 53: within these limits each operation is exact.
+#![tactic(auto)]
+
 ghost use Rattle.std.specs.Prelude.{◌≡◌, ◌≤◌, ltb, eqb};
 ghost use Rattle.model.specs.Whole.{exact, whole, amount, IsWhole};
 
