@@ -1,0 +1,16 @@
+-- The invariant: the sum is the exact cost of the routes passed, and the next route begins where they end.
+use Prim.Native.Nat.{◌+◌, ◌-◌, ◌≤◌}
+use mathlib.Core.Path.{◌≡◌}
+use lib.ListN.{take}
+use Rattle.model.specs.Lists.{sum as added}
+use Rattle.model.specs.Whole.{whole}
+use Rattle.model.specs.Plan.{decode}
+use Rattle.delivery.specs.Costs.{table_driving}
+use Rattle.delivery.proofs.driving_cost.Given as goal
+
+abbrev pub invariant-loop-k : goal.invariant-loop-k
+invariant-loop-k l =
+    (l.k ≤ l.v) × (l.at ≡ l.v + added (take l.k l.plan)) × (l.sum ≡ whole (table_driving l.legs l.prices 0 (take l.k (decode l.v l.plan))))
+
+abbrev pub decreases-loop-k : goal.decreases-loop-k
+decreases-loop-k l = l.v - l.k

@@ -1,0 +1,26 @@
+use mathlib.Core.Path.{◌∙◌, ap}
+use native.Mathlib.Omega.{arith}
+use Rattle.model.specs.Plan.{decode}
+use Rattle.file_columns.specs.Put.{written}
+use Rattle.file_printing.proofs.Pieces.{vehicle-printed, vehicle-small, dash-printed, routes-few}
+use Rattle.file_printing.proofs.put_vehicle.Goals as goal
+
+pub put_number-requires : goal.put_number-requires
+put_number-requires c =
+    let found = c.find in
+    record {
+      some = omega arith;
+      few = omega arith;
+      fits = omega (arith, routes-few c.args.v c.args.plan.now, vehicle-small (decode c.args.v c.args.plan.now) c.args.stop found.result found.ensures _ c.in-At.is, c.requires.sizes.vehicles);
+      room = c.requires.room;
+    }
+
+pub returns-in-At : goal.returns-in-At
+returns-in-At c =
+    let found = c.find in
+    c.put_number.ensures ∙ ap (written _ _) (vehicle-printed _ _ found.result found.ensures _ c.in-At.is)
+
+pub returns-in-Nowhere : goal.returns-in-Nowhere
+returns-in-Nowhere c =
+    let found = c.find in
+    c.put_dash.ensures ∙ ap (written _ _) (dash-printed _ _ found.result found.ensures c.in-Nowhere.is)

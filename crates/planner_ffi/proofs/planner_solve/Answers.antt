@@ -1,0 +1,6 @@
+use Rattle.planner_ffi.proofs.Handed.{hands-run}
+use Rattle.planner_ffi.proofs.planner_solve.Goals as goal
+
+pub returns : goal.returns
+returns c =
+    hands-run _ _ _ c.solve-answer.ensures _ _ _ c.hand_totals.ensures.value c.hand_totals.ensures.settled_after

@@ -1,0 +1,6 @@
+use Rattle.model.specs.Refusals.{Weigh}
+use Rattle.planner_ffi.proofs.Handed.{hands-cost}
+use Rattle.planner_ffi.proofs.planner_weigh.Goals as goal
+
+pub returns : goal.returns
+returns c = hands-cost Weigh _ _ _ c.weigh-answer.ensures _ _ _ c.hand_cost.ensures.value c.hand_cost.ensures.cost_after

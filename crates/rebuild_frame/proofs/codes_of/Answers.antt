@@ -1,0 +1,69 @@
+use Prim.Native.Nat.{◌+◌, ◌-◌, ◌<◌}
+use mathlib.Core.Logic.{⊎_elim}
+use native.Mathlib.Omega.{arith}
+use lib.ListN.{get_or, set}
+use Rattle.rebuild_words.specs.Words.{code}
+use Rattle.rebuild_frame.proofs.Codes.{digit_at, read_same, read_none, read_all, read-gap, read-zero, read_known, read-room, read-stop}
+use Rattle.rebuild_frame.proofs.codes_of.Goals as goal
+use Rattle.rebuild_frame.proofs.codes_of.Goals.{After-codes-1}
+
+small : (c : After-codes-1) → get_or c.args.frame.now (16 + digit_at c.args.word c.loop-i.i) 0 < 64
+small c =
+    let l = c.loop-i in
+    read_known c.args.frame.now c.requires.0 c.args.word c.requires.1 l.i l.m l.gap l.codes l.invariant
+    c.loop-i-test.true c.if-digit-ge8.false c.if-digit-ne0.true
+
+room : (c : After-codes-1) → c.loop-i.m < 7
+room c =
+    let l = c.loop-i in
+    read-room c.args.frame.now c.requires.0 c.args.word c.requires.1 l.i l.m l.gap l.codes l.invariant
+    c.loop-i-test.true c.if-digit-ge8.false c.if-digit-ne0.true
+
+pub loop-i-init : goal.loop-i-init
+loop-i-init c = read_none c.args.frame.now c.requires.0 c.args.word c.requires.1 c.args.codes.now c.requires.2
+
+pub overflow_sub-gap : goal.overflow_sub-gap
+overflow_sub-gap c = c.if-digit-ge8.true
+
+pub overflow_mul-codes : goal.overflow_mul-codes
+overflow_mul-codes c = omega (arith, c.loop-i.invariant.low)
+
+pub overflow_add-codes-then-digit-ne0 : goal.overflow_add-codes-then-digit-ne0
+overflow_add-codes-then-digit-ne0 c = omega (arith, small (goal.at.overflow_add-codes-then-digit-ne0 c).After-codes-1, c.loop-i.invariant.low)
+
+pub offset_bounds-codes-m : goal.offset_bounds-codes-m
+offset_bounds-codes-m c = omega (arith, room (goal.at.offset_bounds-codes-m c).After-codes-1)
+
+pub bounds-codes-m : goal.bounds-codes-m
+bounds-codes-m c = room (goal.at.bounds-codes-m c).After-codes-1
+
+pub overflow_add-m : goal.overflow_add-m
+overflow_add-m c = omega (arith, room (goal.at.overflow_add-m c).After-codes-1)
+
+pub loop-i-preserved : goal.loop-i-preserved
+loop-i-preserved c =
+    let l = c.loop-i in
+    let f = c.args.frame.now in
+    let w = c.args.word in
+    let d = digit_at w l.i in
+    let h = c.loop-i-test.true in
+    ⊎_elim
+    (λ j.
+    read_same f w (l.i + 1) l.m (d - 8) l.codes (read-gap f c.requires.0 w c.requires.1 l.i l.m l.gap l.codes l.invariant h j.0.taken) _ _ _
+    j.1 j.2 j.3)
+    (λ k. ⊎_elim
+    (λ j.
+    read_same f w (l.i + 1) (l.m + 1) l.gap (set l.codes l.m (code l.gap (get_or f (16 + d) 0)))
+    (read-stop f c.requires.0 w c.requires.1 l.i l.m l.gap l.codes l.invariant h j.0.left j.1.taken) _ _ _ j.3 j.4 j.5)
+    (λ j.
+    read_same f w (l.i + 1) l.m l.gap l.codes (read-zero f c.requires.0 w c.requires.1 l.i l.m l.gap l.codes l.invariant h j.1.left) _ _ _
+    j.2 j.3 j.4)
+    k)
+    c.if-digit-ge8.branch
+
+pub returns : goal.returns
+returns c =
+    let l = c.loop-i in (
+      read_all c.args.frame.now c.requires.0 c.args.word c.requires.1 l.i l.m l.gap l.codes l.invariant c.loop-i-test.false,
+      omega (arith, l.invariant.few, l.invariant.long),
+    )

@@ -1,0 +1,74 @@
+use native.Mathlib.Omega.{arith}
+use Prim.Native.Nat.{◌≤◌}
+use lib.ListN.{length, take}
+use Rattle.model.specs.Plan.{decode}
+use Rattle.two_opt_candidates.specs.Pairs.{pair_of}
+use Rattle.two_opt_inter.proofs.Rows.{Front, front, choice-cuts}
+use Rattle.two_opt_inter.proofs.Plans.{new-few, new-placed, front-first, front-second, new-written}
+use Rattle.two_opt_inter.proofs.write_pair.Goals as goal
+use Rattle.two_opt_inter.proofs.write_pair.Goals.{After-choice_of-c, After-write_joined-p, After-write_joined-q}
+
+-- the cuts are there
+cuts : (c : After-choice_of-c) → (let a = c.args in (c.choice_of-c.result.first ≤ length a.ra.now) × (c.choice_of-c.result.second ≤ length a.rb.now))
+cuts c =
+    let k = choice-cuts c.args.code c.args.i c.args.j c.choice_of-c.result c.choice_of-c.ensures in
+    (omega (arith, c.requires.1.first_at), omega (arith, c.requires.1.second_at))
+
+-- the two new routes
+new-first : (c : After-write_joined-p)
+    → (let a = c.args in Front c.write_joined-p.new.row c.write_joined-p.result (pair_of a.ra.now a.i a.rb.now a.j a.code).0)
+new-first c =
+    let w = c.write_joined-p in
+    let a = c.args in
+    front-first w.new.row w.result a.ra.now a.i a.rb.now a.j a.code c.choice_of-c.ensures
+    (front _ w.new.row _ w.result w.ensures.row_after w.ensures.value)
+
+new-second : (c : After-write_joined-q)
+    → (let a = c.args in Front c.write_joined-q.new.row c.write_joined-q.result (pair_of a.ra.now a.i a.rb.now a.j a.code).1)
+new-second c =
+    let w = c.write_joined-q in
+    let a = c.args in
+    front-second w.new.row w.result a.ra.now a.i a.rb.now a.j a.code c.choice_of-c.ensures
+    (front _ w.new.row _ w.result w.ensures.row_after w.ensures.value)
+
+pub choice_of-c-requires : goal.choice_of-c-requires
+choice_of-c-requires c =
+    let f = new-few c.requires.0 c.requires.1 in
+    (omega (arith, c.requires.1.first_at), omega (arith, c.requires.1.second_at))
+
+pub write_joined-p-requires : goal.write_joined-p-requires
+write_joined-p-requires c =
+    ((cuts (goal.at.write_joined-p-requires c).After-choice_of-c).0, (cuts (goal.at.write_joined-p-requires c).After-choice_of-c).1, new-few c.requires.0 c.requires.1)
+
+pub write_joined-q-requires : goal.write_joined-q-requires
+write_joined-q-requires c =
+    ((cuts (goal.at.write_joined-q-requires c).After-choice_of-c).1, (cuts (goal.at.write_joined-q-requires c).After-choice_of-c).0, omega (arith, new-few c.requires.0 c.requires.1))
+
+pub slice_bounds-x-end : goal.slice_bounds-x-end
+slice_bounds-x-end c = (new-first (goal.at.slice_bounds-x-end c).After-write_joined-p).inside
+
+pub slice_bounds-replace_two-end : goal.slice_bounds-replace_two-end
+slice_bounds-replace_two-end c = (new-first (goal.at.slice_bounds-replace_two-end c).After-write_joined-p).size
+
+pub slice_bounds-y-end : goal.slice_bounds-y-end
+slice_bounds-y-end c = (new-second (goal.at.slice_bounds-y-end c).After-write_joined-q).inside
+
+pub slice_bounds-replace_two-end-2 : goal.slice_bounds-replace_two-end-2
+slice_bounds-replace_two-end-2 c = (new-second (goal.at.slice_bounds-replace_two-end-2 c).After-write_joined-q).size
+
+pub replace_two-requires : goal.replace_two-requires
+replace_two-requires c =
+    let T = c.requires.0 in record {
+      sizes = T.sizes;
+      lent = T.plan;
+      len = c.requires.2;
+      a_lt_v = (T.first, T.second, T.apart);
+      bound = new-placed T c.requires.1 c.args.code (take c.write_joined-p.result c.write_joined-p.new.row) (take c.write_joined-q.result c.write_joined-q.new.row)
+          (new-first (goal.at.replace_two-requires c).After-write_joined-p).is (new-second (goal.at.replace_two-requires c).After-write_joined-q).is;
+    }
+
+pub returns : goal.returns
+returns c =
+    let a = c.args in
+    new-written c.replace_two.new.new a.n a.a a.b (decode a.v a.old.now) (take c.write_joined-p.result c.write_joined-p.new.row)
+    (take c.write_joined-q.result c.write_joined-q.new.row) _ _ c.replace_two.ensures (new-first (goal.at.returns c).After-write_joined-p).is (new-second (goal.at.returns c).After-write_joined-q).is
