@@ -6,10 +6,10 @@ use lib.ListN.{length}
 use Rattle.file_lines.proofs.Checks.{said, denied}
 use Rattle.file_job.proofs.Checked.{table-bytes, no-first, first-within, over-limit, no-tables, no-draws-there, few-draws, all-checked}
 use Rattle.file_job.proofs.check_at.Goals as goal
-use Rattle.file_job.proofs.check_at.Goals.{In-Numbers-2}
+use Rattle.file_job.proofs.check_at.Goals.{In-Numbers}
 
--- the line.before stands within the bytes
-within : (a : In-Numbers-2) → a.args.at + 113 ≤ length a.args.bytes.now
+-- the first line stands within the bytes
+within : (a : In-Numbers) → a.args.at + 113 ≤ length a.args.bytes.now
 within a = let read = a.read_first_line in first-within _ _ read.result read.ensures _ a.in-Numbers.is
 
 pub returns-in_default : goal.returns-in_default
@@ -33,7 +33,7 @@ returns-then-l-gt80 c =
     over-limit _ _ read.result read.ensures _ c.in-Numbers.is (λ v n l. omega arith)
 
 pub overflow_add-at : goal.overflow_add-at
-overflow_add-at c = omega (arith, within (goal.at.overflow_add-at c).In-Numbers-2)
+overflow_add-at c = omega (arith, within (goal.at.overflow_add-at c).In-Numbers)
 
 pub returns-then-not-check_tables : goal.returns-then-not-check_tables
 returns-then-not-check_tables c =
@@ -42,19 +42,19 @@ returns-then-not-check_tables c =
     no-tables _ _ read.result read.ensures _ c.in-Numbers.is (denied called.result (ap not c.if-not-check_tables.true) called.ensures)
 
 pub overflow_add-count : goal.overflow_add-count
-overflow_add-count c = omega (arith, within (goal.at.overflow_add-count c).In-Numbers-2)
+overflow_add-count c = omega (arith, within (goal.at.overflow_add-count c).In-Numbers)
 
 pub overflow_add-count-2 : goal.overflow_add-count-2
-overflow_add-count-2 c = omega (arith, within (goal.at.overflow_add-count-2 c).In-Numbers-2)
+overflow_add-count-2 c = omega (arith, within (goal.at.overflow_add-count-2 c).In-Numbers)
 
 pub overflow_add-count-3 : goal.overflow_add-count-3
-overflow_add-count-3 c = omega (arith, within (goal.at.overflow_add-count-3 c).In-Numbers-2)
+overflow_add-count-3 c = omega (arith, within (goal.at.overflow_add-count-3 c).In-Numbers)
 
 pub overflow_mul-count-4 : goal.overflow_mul-count-4
 overflow_mul-count-4 c = omega (arith, table-bytes _ c.if-l-gt80.false)
 
 pub overflow_add-count-5 : goal.overflow_add-count-5
-overflow_add-count-5 c = omega (arith, within (goal.at.overflow_add-count-5 c).In-Numbers-2, table-bytes _ c.if-l-gt80.false)
+overflow_add-count-5 c = omega (arith, within (goal.at.overflow_add-count-5 c).In-Numbers, table-bytes _ c.if-l-gt80.false)
 
 pub returns-in_default-check_draws : goal.returns-in_default-check_draws
 returns-in_default-check_draws c =
@@ -68,7 +68,7 @@ overflow_add-result c =
     let drawn = c.check_draws in
     omega (
       arith,
-      within (goal.at.overflow_add-result c).In-Numbers-2,
+      within (goal.at.overflow_add-result c).In-Numbers,
       table-bytes _ c.if-l-gt80.false,
       few-draws _ _ read.result read.ensures _ c.in-Numbers.is _ drawn.result drawn.ensures c.in-Count.is,
     )
@@ -79,7 +79,7 @@ overflow_mul-result c =
     let drawn = c.check_draws in
     omega (
       arith,
-      within (goal.at.overflow_mul-result c).In-Numbers-2,
+      within (goal.at.overflow_mul-result c).In-Numbers,
       table-bytes _ c.if-l-gt80.false,
       few-draws _ _ read.result read.ensures _ c.in-Numbers.is _ drawn.result drawn.ensures c.in-Count.is,
     )
@@ -90,7 +90,7 @@ overflow_add-result-2 c =
     let drawn = c.check_draws in
     omega (
       arith,
-      within (goal.at.overflow_add-result-2 c).In-Numbers-2,
+      within (goal.at.overflow_add-result-2 c).In-Numbers,
       table-bytes _ c.if-l-gt80.false,
       few-draws _ _ read.result read.ensures _ c.in-Numbers.is _ drawn.result drawn.ensures c.in-Count.is,
     )

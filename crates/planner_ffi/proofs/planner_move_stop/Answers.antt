@@ -4,4 +4,4 @@ use Rattle.planner_ffi.proofs.planner_move_stop.Goals as goal
 pub returns : goal.returns
 returns c =
     let h = c.hand_move.ensures in
-    hands-move _ _ _ c.move_stop-answer.ensures _ _ _ h.0 h.1
+    hands-move _ _ _ c.move_stop-answer.ensures _ _ _ h.value h.change_after

@@ -4,4 +4,4 @@ use Rattle.planner_ffi.proofs.planner_roadworks.Goals as goal
 pub returns : goal.returns
 returns c =
     let h = c.hand_rise.ensures in
-    hands-rise _ _ c.roadworks-answer.ensures _ _ _ h.0 h.1
+    hands-rise _ _ c.roadworks-answer.ensures _ _ _ h.value h.rise_after

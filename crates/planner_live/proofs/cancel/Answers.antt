@@ -54,4 +54,4 @@ returns c =
     let e = not-refused (goal.at.returns c).Else-refused-ne0 in
     let f = c.leg_table.ensures.fits A.job.prices in
     let d = c.cancel-cost.ensures in
-    changes-accepted Cancel A (cancellation-exact _) _ _ _ e c.without.ensures (d.1 A.job f) d.0
+    changes-accepted Cancel A (cancellation-exact _) _ _ _ e c.without.ensures (d.value A.job f) d.plan_after

@@ -48,4 +48,4 @@ returns c =
     let e = not-refused (goal.at.returns c).Else-refused-ne0 in
     let f = c.leg_table.ensures.fits A.job.prices in
     let d = c.move_stop.ensures in
-    moves-accepted A _ _ e (to_z-of_z w64 _ (record { sfits = c.move_stop.type_inv }) ∙ d.1 A.job f A.vans (allowed _ _ _ _ e).held) d.0
+    moves-accepted A _ _ e (to_z-of_z w64 _ (record { sfits = c.move_stop.type_inv }) ∙ d.changes A.job f A.vans (allowed _ _ _ _ e).held) d.plan_after

@@ -32,4 +32,4 @@ returns c =
     let A = given (goal.at.returns c).After-of_view-refused in
     let e = not-refused (goal.at.returns c).Else-refused-ne0 in
     let d = c.view.ensures in
-    views-accepted A _ _ e d.0 d.1
+    views-accepted A _ _ e d.value d.seen_after

@@ -16,10 +16,8 @@ as-much c = sym c.same.ensures ∙ c.if-not-same.false
 here : (c : After-size-most) → placed (decode c.args.v c.args.plan.now) ≡ c.size-placed.result
 here c = sym (c.size-placed.ensures.digits ∙ c.placed_set.ensures.size)
 
-
 there : (c : After-size-most) → placed (decode c.args.v c.args.best.now) ≡ c.size-most.result
 there c = sym (c.size-most.ensures.digits ∙ c.placed_set-2.ensures.size)
-
 
 pub returns-then-cheaper : goal.returns-then-cheaper
 returns-then-cheaper c = let a = c.args in sym (cheaper a.v a.n a.plan.now a.best.now c.requires.plan c.requires.best (amount a.cost) (amount a.least) (sym c.cheaper.ensures ∙ c.if-cheaper.true))
@@ -30,23 +28,15 @@ returns-then-not-same c =
     sym (dearer a.v a.n a.plan.now a.best.now c.requires.plan c.requires.best (amount a.cost) (amount a.least)
     (sym c.cheaper.ensures ∙ c.if-cheaper.false) (sym c.same.ensures ∙ c.if-not-same.true))
 
--- TODO
-returns-3 : tie.Need-returns-3
-unfolding returns-3.before c =
-    let d = c.before in
-    let e = d.before in
-    let s = e.before in
-    let a = s.args in
-    sym (by-stops a.v a.n a.plan.now a.best.now s.pre.plan s.pre.best (amount a.cost) (amount a.least) (no_less e) (as-much e)
-    d.before.before.size.result d.size2.result (here d) (there d) c.if3.true)
+pub returns-then-placed-most : goal.returns-then-placed-most
+returns-then-placed-most c =
+    let a = c.args in
+    sym (by-stops a.v a.n a.plan.now a.best.now c.requires.plan c.requires.best (amount a.cost) (amount a.least) (no_less (goal.at.returns-then-placed-most c).Else-not-same) (as-much (goal.at.returns-then-placed-most c).Else-not-same)
+    c.size-placed.result c.size-most.result (here (goal.at.returns-then-placed-most c).After-size-most) (there (goal.at.returns-then-placed-most c).After-size-most) c.if-placed-most.true)
 
--- TODO
-returns-4 : tie.Need-returns-4
-unfolding returns-4.before c =
-    let d = c.before.before in
-    let e = d.before in
-    let s = e.before in
-    let a = s.args in
+pub returns : goal.returns
+returns c =
+    let a = c.args in
     c.lower.ensures
-    ∙ sym (by-forms a.v a.n a.plan.now a.best.now s.pre.plan s.pre.best (amount a.cost) (amount a.least) (no_less e) (as-much e)
-    d.before.before.size.result d.size2.result (here d) (there d) c.before.if3.false)
+    ∙ sym (by-forms a.v a.n a.plan.now a.best.now c.requires.plan c.requires.best (amount a.cost) (amount a.least) (no_less (goal.at.returns c).Else-not-same) (as-much (goal.at.returns c).Else-not-same)
+    c.size-placed.result c.size-most.result (here (goal.at.returns c).After-size-most) (there (goal.at.returns c).After-size-most) c.if-placed-most.false)

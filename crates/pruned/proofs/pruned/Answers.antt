@@ -29,7 +29,7 @@ as_long c =
     let p = c.requires in
     length-append (long c) (drop (size c) zeros) ∙ omega (arith, (long-enough c), length-drop (size c) zeros, p.vehicles, p.stops)
 
-copied : (c : After-copy_plan) → take (size c) ((long c) ++ drop (size c) zeros) ≡ blank c
+copied : (c : After-copy_plan) → take (size c) ((long c) ++ drop (size c) zeros) ≡ blank (goal.at.After-copy_plan c).After-empty
 copied c = take_at (long c) (drop (size c) zeros) (size c) (long-enough c) ∙ c.copy_plan.ensures
 
 pub cost-least-requires : goal.cost-least-requires

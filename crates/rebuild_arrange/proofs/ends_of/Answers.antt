@@ -10,8 +10,8 @@ pub loop-i-preserved : goal.loop-i-preserved
 loop-i-preserved c =
     let l = c.loop-i in
     elim c.if-i-lt-GAP.branch [
-      then-i-lt-GAP w ↦ ending-stop c.args.frame.now c.args.gaps.now c.args.side c.requires l.i l.ends l.invariant w.if-i-lt-GAP.true c.if-i-lt-GAP.ends w.ends-is
-    | else-i-lt-GAP w ↦ ending-gap c.args.frame.now c.args.gaps.now c.args.side c.requires l.i l.ends l.invariant c.loop-i-test.true w.if-i-lt-GAP.false c.if-i-lt-GAP.ends w.ends-is
+      | then-i-lt-GAP w ↦ ending-stop c.args.frame.now c.args.gaps.now c.args.side c.requires l.i l.ends l.invariant w.if-i-lt-GAP.true c.if-i-lt-GAP.ends w.ends-is
+      | else-i-lt-GAP w ↦ ending-gap c.args.frame.now c.args.gaps.now c.args.side c.requires l.i l.ends l.invariant c.loop-i-test.true w.if-i-lt-GAP.false c.if-i-lt-GAP.ends w.ends-is
     ]
 
 pub returns : goal.returns

@@ -1,10 +1,10 @@
 use Prim.Native.Nat.{◌+◌, ◌-◌, ◌<◌}
-use mathlib.Core.Logic.{⊎_elim}
 use native.Mathlib.Omega.{arith}
 use lib.ListN.{get_or, set}
 use Rattle.rebuild_words.specs.Words.{code}
 use Rattle.rebuild_frame.proofs.Codes.{digit_at, read_same, read_none, read_all, read-gap, read-zero, read_known, read-room, read-stop}
 use Rattle.rebuild_frame.proofs.codes_of.Goals as goal
+use Rattle.rebuild_frame.proofs.codes_of.Goals.{then-digit-ge8, else-digit-ge8+then-digit-ne0, else-digit-ge8+else-digit-ne0}
 use Rattle.rebuild_frame.proofs.codes_of.Goals.{After-codes-1}
 
 small : (c : After-codes-1) → get_or c.args.frame.now (16 + digit_at c.args.word c.loop-i.i) 0 < 64
@@ -47,19 +47,20 @@ loop-i-preserved c =
     let w = c.args.word in
     let d = digit_at w l.i in
     let h = c.loop-i-test.true in
-    ⊎_elim
-    (λ j.
-    read_same f w (l.i + 1) l.m (d - 8) l.codes (read-gap f c.requires.0 w c.requires.1 l.i l.m l.gap l.codes l.invariant h j.0.taken) _ _ _
-    j.1 j.2 j.3)
-    (λ k. ⊎_elim
-    (λ j.
-    read_same f w (l.i + 1) (l.m + 1) l.gap (set l.codes l.m (code l.gap (get_or f (16 + d) 0)))
-    (read-stop f c.requires.0 w c.requires.1 l.i l.m l.gap l.codes l.invariant h j.0.left j.1.taken) _ _ _ j.3 j.4 j.5)
-    (λ j.
-    read_same f w (l.i + 1) l.m l.gap l.codes (read-zero f c.requires.0 w c.requires.1 l.i l.m l.gap l.codes l.invariant h j.1.left) _ _ _
-    j.2 j.3 j.4)
-    k)
-    c.if-digit-ge8.branch
+    elim c.if-digit-ge8.branch [
+      | then-digit-ge8 j ↦
+          read_same f w (l.i + 1) l.m (d - 8) l.codes
+          (read-gap f c.requires.0 w c.requires.1 l.i l.m l.gap l.codes l.invariant h j.if-digit-ge8.true) _ _ _
+          j.codes-is j.m-is j.gap-is
+      | else-digit-ge8+then-digit-ne0 j ↦
+          read_same f w (l.i + 1) (l.m + 1) l.gap (set l.codes l.m (code l.gap (get_or f (16 + d) 0)))
+          (read-stop f c.requires.0 w c.requires.1 l.i l.m l.gap l.codes l.invariant h j.if-digit-ge8.false j.if-digit-ne0.true) _ _ _
+          j.codes-is j.m-is j.gap-is
+      | else-digit-ge8+else-digit-ne0 j ↦
+          read_same f w (l.i + 1) l.m l.gap l.codes
+          (read-zero f c.requires.0 w c.requires.1 l.i l.m l.gap l.codes l.invariant h j.if-digit-ne0.false) _ _ _
+          j.codes-is j.m-is j.gap-is
+    ]
 
 pub returns : goal.returns
 returns c =

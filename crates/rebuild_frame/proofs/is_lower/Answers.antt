@@ -22,14 +22,14 @@ room s = omega (arith, s.requires.0.gapped.sizes.vehicles, s.requires.0.gapped.s
 abbrev first : After-plan_of → List ℕ
 first x = x.plan_of.new.to
 
-first-long : (x : After-plan_of) → length (first x) ≡ long x
-first-long x = x.plan_of.kept.1.1.0 ∙ sym (front_long _ _ (room (goal.at.After-plan_of x).Start))
+first-long : (x : After-plan_of) → length (first x) ≡ long (goal.at.After-plan_of x).Start
+first-long x = x.plan_of.auto.to ∙ sym (front_long _ _ (room (goal.at.After-plan_of x).Start))
 
 abbrev second : After-plan_of-2 → List ℕ
 second y = y.plan_of-2.new.to
 
-second-long : (y : After-plan_of-2) → length (second y) ≡ long y
-second-long y = y.plan_of-2.kept.1.1.0 ∙ sym (front_long _ _ (room (goal.at.After-plan_of-2 y).Start))
+second-long : (y : After-plan_of-2) → length (second y) ≡ long (goal.at.After-plan_of-2 y).Start
+second-long y = y.plan_of-2.auto.to ∙ sym (front_long _ _ (room (goal.at.After-plan_of-2 y).Start))
 
 pub slice_bounds-plan_of-end : goal.slice_bounds-plan_of-end
 slice_bounds-plan_of-end c = front_long _ _ (room (goal.at.slice_bounds-plan_of-end c).Start)

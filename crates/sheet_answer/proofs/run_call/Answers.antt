@@ -10,12 +10,12 @@ returns-then-call-eq1 c =
 pub returns-then-call-eq2 : goal.returns-then-call-eq2
 returns-then-call-eq2 c =
     let f = c.start_plan.ensures in
-    ran-start _ _ _ c.args.call c.args.given.now c.args.plan.now _ _ c.if-call-eq2.true f.1 f.0
+    ran-start _ _ _ c.args.call c.args.given.now c.args.plan.now _ _ c.if-call-eq2.true f.plan_after f.prints
 
 pub returns-then-call-eq7 : goal.returns-then-call-eq7
 returns-then-call-eq7 c =
     let f = c.solve.ensures in
-    ran-solve _ _ _ c.args.call c.args.given.now c.args.plan.now _ _ c.if-call-eq7.true f.1 f.0
+    ran-solve _ _ _ c.args.call c.args.given.now c.args.plan.now _ _ c.if-call-eq7.true f.plan_after f.prints
 
 pub returns-then-call-gt7 : goal.returns-then-call-gt7
 returns-then-call-gt7 c =

@@ -14,7 +14,7 @@ arrive-requires c =
 pub returns-then-call-eq8 : goal.returns-then-call-eq8
 returns-then-call-eq8 c =
     let f = c.arrive.ensures in
-    ran-arrive _ _ _ c.args.call c.args.given.now c.args.plan.now _ _ c.if-call-eq8.true f.1 f.0
+    ran-arrive _ _ _ c.args.call c.args.given.now c.args.plan.now _ _ c.if-call-eq8.true f.plan_after f.prints
 
 pub cancel-requires : goal.cancel-requires
 cancel-requires c =
@@ -23,4 +23,4 @@ cancel-requires c =
 pub returns : goal.returns
 returns c =
     let f = c.cancel.ensures in
-    ran-cancel _ _ _ c.args.call c.args.given.now c.args.plan.now _ _ (other _ c.requires.le_call c.if-call-eq8.false) f.1 f.0
+    ran-cancel _ _ _ c.args.call c.args.given.now c.args.plan.now _ _ (other _ c.requires.le_call c.if-call-eq8.false) f.plan_after f.prints

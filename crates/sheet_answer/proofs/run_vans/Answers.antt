@@ -33,7 +33,7 @@ view-requires c =
 pub returns-then-call-eq10 : goal.returns-then-call-eq10
 returns-then-call-eq10 c =
     let f = c.view.ensures in
-    ran-view _ _ _ c.args.call c.args.given.now c.args.plan.now _ _ _ c.if-call-eq10.true (take-replicate _ 96 0 c.requires.le_call.2) f.1 f.0
+    ran-view _ _ _ c.args.call c.args.given.now c.args.plan.now _ _ _ c.if-call-eq10.true (take-replicate _ 96 0 c.requires.le_call.2) f.seen_after f.prints
 
 pub move_stop-requires : goal.move_stop-requires
 move_stop-requires c =
@@ -42,4 +42,4 @@ move_stop-requires c =
 pub returns : goal.returns
 returns c =
     let f = c.move_stop.ensures in
-    ran_move _ _ _ c.args.call c.args.given.now c.args.plan.now _ _ (other _ c.requires.le_call.0 c.requires.le_call.1 c.if-call-eq10.false) f.1 f.0
+    ran_move _ _ _ c.args.call c.args.given.now c.args.plan.now _ _ (other _ c.requires.le_call.0 c.requires.le_call.1 c.if-call-eq10.false) f.plan_after f.prints

@@ -16,7 +16,7 @@ returns-in_default c =
 pub overflow_add-next : goal.overflow_add-next
 overflow_add-next c =
     let read = c.read_field in
-    omega (arith, field-within _ _ _ read.result read.ensures c.in-Number.is)
+    omega (arith, field-within c.args.bytes.now _ _ read.result read.ensures c.in-Number.is)
 
 pub loop-i-preserved : goal.loop-i-preserved
 loop-i-preserved c =

@@ -11,11 +11,11 @@ pub returns-then-near-gt10 : goal.returns-then-near-gt10
 returns-then-near-gt10 c =
     let a = c.args in
     let e = c.all_pairs.ensures in
-    record { plan_after = ten a.legs.now a.v a.n a.prices a.plan.now a.near.now _ e.0; lent = e.1; plan_after_2 = e.0 }
+    record { plan_after = ten a.legs.now a.v a.n a.prices a.plan.now a.near.now _ e.plan_after; lent = e.lent; plan_after_2 = e.plan_after }
 
 pub returns-else-near-gt10 : goal.returns-else-near-gt10
 returns-else-near-gt10 c =
     let a = c.args in
     let e = c.all_pairs-else-near-gt10.ensures in
-    let l = fewer a.legs.now a.v a.n a.prices a.plan.now a.near.now _ c.if-near-gt10.false e.0 in
-    record { plan_after = ten a.legs.now a.v a.n a.prices a.plan.now a.near.now _ l; lent = e.1; plan_after_2 = l }
+    let l = fewer a.legs.now a.v a.n a.prices a.plan.now a.near.now _ c.if-near-gt10.false e.plan_after in
+    record { plan_after = ten a.legs.now a.v a.n a.prices a.plan.now a.near.now _ l; lent = e.lent; plan_after_2 = l }
