@@ -1,5 +1,4 @@
 use mathlib.Core.Path.{sym, ◌∙◌}
-use Prim.Native.Nat.{◌-◌}
 use native.Mathlib.Omega.{arith}
 use Rattle.call_tests.proofs.Laws.{onward, stops, at-end}
 use Rattle.call_tests.proofs.all_below.Goals as goal

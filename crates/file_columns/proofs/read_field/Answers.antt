@@ -1,4 +1,3 @@
-use Prim.Native.Nat.{◌-◌}
 use mathlib.Core.Logic.{inl, inr}
 use native.Mathlib.Omega.{arith}
 use Rattle.file_columns.proofs.Leads.{read_none, read_small, read_more, no_room, no_field, no-last-digit, whole-field}

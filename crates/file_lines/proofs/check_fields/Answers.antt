@@ -1,5 +1,4 @@
 use mathlib.Core.Path.{◌≡◌}
-use Prim.Native.Nat.{◌-◌}
 use native.Mathlib.Omega.{arith}
 use Rattle.file_lines.proofs.Checks.{fields-none, fields-more, field-within, fields-bad, fields-large}
 use Rattle.file_lines.proofs.check_fields.Goals as goal

@@ -1,7 +1,6 @@
 use mathlib.Core.Path.{ap}
 use mathlib.Core.Bool.{not}
 use mathlib.Core.Path.{◌≡◌}
-use Prim.Native.Nat.{◌-◌}
 use native.Mathlib.Omega.{arith}
 use Rattle.file_lines.proofs.Checks.{said, denied, line-end, lines_none, lines_more, lines-bad}
 use Rattle.file_lines.proofs.check_lines.Goals as goal

@@ -1,5 +1,4 @@
 use mathlib.Core.Path.{◌≡◌, refl}
-use Prim.Native.Nat.{◌-◌}
 use native.Mathlib.Omega.{arith}
 use Rattle.file_printing.proofs.Pieces.{stops-none, stops-more}
 use Rattle.file_printing.proofs.put_stops.Goals as goal

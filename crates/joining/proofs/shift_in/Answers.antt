@@ -1,4 +1,3 @@
-use Prim.Native.Nat.{◌-◌}
 use native.Mathlib.Omega.{arith}
 use Rattle.joining.proofs.Shifts.{in_start, in-more, in_end}
 use Rattle.joining.proofs.shift_in.Goals as goal

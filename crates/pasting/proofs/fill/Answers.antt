@@ -1,4 +1,3 @@
-use Prim.Native.Nat.{◌-◌}
 use lib.ListN.{length-set}
 use borrow.Author.Fill.{fill_none, fill_more}
 use native.Mathlib.Omega.{arith}

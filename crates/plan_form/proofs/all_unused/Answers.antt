@@ -1,4 +1,3 @@
-use Prim.Native.Nat.{◌-◌}
 use mathlib.Core.Path.{refl, sym, ◌∙◌}
 use Rattle.model.specs.Plan.{unused}
 use Rattle.solution.proofs.Walks.{all_more, all-not, all_end}

@@ -1,4 +1,3 @@
-use Prim.Native.Nat.{◌-◌}
 use mathlib.Core.Path.{sym, ◌∙◌}
 use Rattle.plan_form.proofs.Seen.{good_start, good-beyond, good-twice, good_more, good-end}
 use native.Mathlib.Omega.{arith}

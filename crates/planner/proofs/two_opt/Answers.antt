@@ -1,5 +1,5 @@
 use mathlib.Core.Path.{◌≡◌, refl, sym, ◌∙◌}
-use mathlib.Core.List.{[], ◌∷◌}
+use mathlib.Core.List.{◌∷◌}
 use Rattle.model.specs.Job.{job_of}
 use Rattle.model.specs.Refusals.{Arguments, asking, TwoOpt, refusal}
 use Rattle.model.specs.Calls.{made}

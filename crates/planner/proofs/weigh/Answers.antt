@@ -1,5 +1,4 @@
 use mathlib.Core.Path.{◌≡◌, refl, sym, ◌∙◌}
-use mathlib.Core.List.{[]}
 use Rattle.model.specs.Job.{job_of}
 use Rattle.model.specs.Refusals.{Arguments, asking, Weigh, refusal}
 use Rattle.model.specs.Calls.{made}

@@ -1,3 +1,4 @@
+use native.Mathlib.Omega.{arith}
 use mir.Syntax.{w64}
 use mir.ValLaws.{to_z-of_z}
 use Rattle.planner_ffi.proofs.Handed.{refused-move, accepted-move}
@@ -7,4 +8,4 @@ pub returns-in-Refused : goal.returns-in-Refused
 returns-in-Refused c = let parts = refused-move _ _ _ c.in-Refused.is in record { value = parts.0; change_after = parts.1 }
 
 pub returns-in-Change : goal.returns-in-Change
-returns-in-Change c = let parts = accepted-move _ _ _ _ (to_z-of_z w64 _ (record { sfits = c.known_told-in-Change-1.given.0.1 })) c.in-Change.is in record { value = parts.0; change_after = parts.1 }
+returns-in-Change c = let parts = accepted-move _ _ _ _ (to_z-of_z w64 _ (record { sfits = omega arith })) c.in-Change.is in record { value = parts.0; change_after = parts.1 }

@@ -1,4 +1,3 @@
-use Prim.Native.Nat.{◌-◌}
 use Rattle.rebuild_arrange.proofs.Ends.{ending-none, ending-stop, ending-gap, ending-all}
 use Rattle.rebuild_arrange.proofs.ends_of.Goals as goal
 use Rattle.rebuild_arrange.proofs.ends_of.Goals.{then-i-lt-GAP, else-i-lt-GAP}

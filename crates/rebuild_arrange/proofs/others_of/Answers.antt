@@ -1,4 +1,3 @@
-use Prim.Native.Nat.{◌-◌}
 use Rattle.rebuild_arrange.proofs.Others.{adding-none, adding-more, adding-all}
 use Rattle.rebuild_arrange.proofs.others_of.Goals as goal
 

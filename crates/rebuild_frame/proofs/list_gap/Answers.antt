@@ -1,4 +1,4 @@
-use Prim.Native.Nat.{ℕ, ◌+◌, ◌-◌, ◌*◌, ◌^◌, ◌<◌}
+use Prim.Native.Nat.{ℕ, ◌+◌, ◌*◌, ◌^◌, ◌<◌}
 use native.Mathlib.Omega.{arith}
 use Rattle.rebuild_frame.proofs.Listing.{opened-fits, listing_none, listing-room, listing-fits, listing-more, listed}
 use Rattle.rebuild_frame.proofs.list_gap.Goals as goal

@@ -1,8 +1,5 @@
-use Prim.Native.Nat.{◌-◌}
 use native.Mathlib.Omega.{arith}
 use mathlib.Core.Path.{sym, ◌∙◌}
-use mathlib.Core.Logic.{⊎_elim}
-use borrow.Author.Tests.{not-true, not-false}
 use Rattle.model.specs.Plan.{decode}
 use Rattle.model.proofs.PlanForm.{lent_length}
 use Rattle.rebuild_regions.proofs.Keeping.{kept-none, kept_off, kept-named, kept_more, kept-all}

@@ -1,5 +1,4 @@
-use Prim.Native.Nat.{◌-◌, ◌<◌}
-use mathlib.Core.Logic.{⊎_elim}
+use Prim.Native.Nat.{◌<◌}
 use lib.ListN.{length}
 use native.Mathlib.Omega.{arith}
 use Rattle.rebuild_words.proofs.Gaps.{passed_none, passed-room, passed_here, passed-other, passed-all}

@@ -1,5 +1,4 @@
 use mathlib.Core.Path.{refl, sym, ◌∙◌}
-use Prim.Native.Nat.{◌-◌}
 use native.Mathlib.Omega.{arith}
 use Rattle.ruin_and_recreate.proofs.Whole.{begins, cut, settled, goes_on}
 use Rattle.ruin_and_recreate.proofs.rounds.Goals as goal

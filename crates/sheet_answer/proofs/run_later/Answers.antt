@@ -1,6 +1,5 @@
 use Prim.Native.Nat.{ℕ, ◌≤◌, ◌<◌}
 use mathlib.Core.Path.{◌≡◌, refl}
-use mathlib.Core.List.{[]}
 use native.Mathlib.Omega.{arith}
 use Rattle.sheet_answer.proofs.Ran.{ran-roadworks}
 use Rattle.sheet_answer.proofs.run_later.Goals as goal

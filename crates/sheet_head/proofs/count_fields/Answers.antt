@@ -1,4 +1,3 @@
-use Prim.Native.Nat.{◌-◌}
 use native.Mathlib.Omega.{arith}
 use Rattle.file_lines.proofs.Checks.{field-within}
 use Rattle.sheet_head.proofs.Lists.{goes_on, ends}

@@ -1,3 +1,4 @@
+use native.Mathlib.Omega.{arith}
 use mathlib.Core.Path.{sym}
 use Rattle.sheet_lines.proofs.Shown.{shown-moved, shown-change}
 use Rattle.sheet_lines.proofs.print_moved.Goals as goal
@@ -8,4 +9,4 @@ returns-in-Refused c =
 
 pub returns-in-Change : goal.returns-in-Change
 returns-in-Change c =
-    shown-change _ _ _ _ _ _ (record { sfits = c.known_told-in-Change-1.given.0.1 }) c.in-Change.is c.print_change_and_list.ensures
+    shown-change _ _ _ _ _ _ (record { sfits = omega arith }) c.in-Change.is c.print_change_and_list.ensures

@@ -1,4 +1,3 @@
-use Prim.Native.Nat.{◌-◌}
 use mathlib.Core.Path.{refl, sym, ◌∙◌}
 use Rattle.solution.proofs.Walks.{lower-more, lower-here, lower-end}
 use native.Mathlib.Omega.{arith}

@@ -1,4 +1,4 @@
-use Prim.Native.Nat.{◌-◌, ◌<◌}
+use Prim.Native.Nat.{◌<◌}
 use lib.Dec.{lit<}
 use lib.ListN.{length}
 use Rattle.model.proofs.Counts.{below_at}

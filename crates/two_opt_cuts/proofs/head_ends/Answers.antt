@@ -1,5 +1,4 @@
 use native.Mathlib.Omega.{arith}
-use Prim.Native.Nat.{◌-◌}
 use lib.ListN.{take}
 use lib.Seq.{take_all}
 use Rattle.model.proofs.Counts.{below_at}

@@ -1,5 +1,5 @@
 -- The invariant: the stops from i on are passed.
-use Prim.Native.Nat.{◌-◌, ◌≤◌}
+use Prim.Native.Nat.{◌≤◌}
 use mathlib.Core.List.{reverse}
 use lib.ListN.{length, drop}
 use Rattle.two_opt_cuts.specs.Ends.{EndsOf}

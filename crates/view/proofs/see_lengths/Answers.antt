@@ -1,6 +1,4 @@
-use Prim.Native.Nat.{◌-◌}
 use mathlib.Core.Path.{sym, ◌∙◌}
-use mathlib.Core.Logic.{⊎_elim}
 use Rattle.view.proofs.Seeing.{lengths_none, lengths-own, lengths-other, lengths-all}
 use Rattle.view.proofs.see_lengths.Goals as goal
 use Rattle.view.proofs.see_lengths.Goals.{then-contains, else-contains}

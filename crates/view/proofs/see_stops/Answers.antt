@@ -1,7 +1,6 @@
-use Prim.Native.Nat.{◌+◌, ◌-◌, ◌≤◌}
+use Prim.Native.Nat.{◌+◌, ◌≤◌}
 use native.Mathlib.Omega.{arith}
 use mathlib.Core.Path.{sym, ◌∙◌}
-use mathlib.Core.Logic.{⊎_elim}
 use lib.ListN.{get_or}
 use Rattle.view.proofs.Seeing.{stops-none, route-within, stops-room, stops-own, stops-other, stops-all}
 use Rattle.view.proofs.see_stops.Goals as goal
