@@ -1,3 +1,4 @@
+use mathlib.Core.List.{[]}
 use mathlib.Core.Path.{◌≡◌, refl, sym, ◌∙◌}
 use Rattle.model.specs.Job.{job_of}
 use Rattle.model.specs.Refusals.{Arguments, asking, Exhaustive, refusal}

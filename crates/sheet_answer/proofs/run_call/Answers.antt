@@ -1,3 +1,4 @@
+use mathlib.Core.List.{[]}
 use mathlib.Core.Path.{refl}
 use Rattle.sheet_answer.proofs.Ran.{ran-weigh, ran-start, ran-solve}
 use Rattle.sheet_answer.proofs.run_call.Goals as goal
