@@ -1,5 +1,5 @@
-/* The drive shuttle planner for hosts in C: the functions of the static library that `rt staticlib planner_ffi` writes to
- * target/staticlib/libplanner_ffi.a (x86-64 Linux; it needs nothing but memcpy, memmove and memset).
+/* The drive shuttle planner for hosts in C: the functions of the static library crates/planner_ffi/out/libplanner_ffi.a, which
+ * `rt lib` writes in crates/planner_ffi (x86-64 Linux; it needs nothing but memcpy, memmove and memset).
  *
  * What every call promises (proved in crates/planner_ffi, as equations over the definitions of crates/model/specs):
  * - It returns 0 where it accepts its arguments, and otherwise the number of the first test that applies to them. The tests are
@@ -7,7 +7,8 @@
  * - A call that is refused leaves every buffer and every result as it was.
  * - A call that is accepted leaves in the plan and in its results what the definitions say, and nothing elsewhere.
  * - It ends, on every input.
- * It takes no memory but the stack, of which it used 49 KiB on large jobs (examples/hosts/c/stack.c measures it; it is not proved).
+ * It takes no memory but the stack, of which it used 49 KiB on large jobs, as an older kit built it (examples/hosts/c/stack.c measures
+ * it; it is not proved).
  *
  * What the host owes, since nothing can test it from inside: a pointer is not null (also where its length is 0) and is
  * aligned for its type; a list's length is how many numbers lie behind its pointer; what is written (a plan that is not

@@ -1,11 +1,11 @@
-//! Links the proved planner, which `rt staticlib planner_ffi` writes. PLANNER_LIB names another folder with it.
+//! Links the proved planner, which `rt lib` writes in crates/planner_ffi. PLANNER_LIB names another folder with it.
 
 use std::{env, path::PathBuf};
 
 fn main() {
     let folder = match env::var_os("PLANNER_LIB") {
         Some(folder) => PathBuf::from(folder),
-        None => PathBuf::from(env!("CARGO_MANIFEST_DIR")).join("../../../target/staticlib"),
+        None => PathBuf::from(env!("CARGO_MANIFEST_DIR")).join("../../../crates/planner_ffi/out"),
     };
 
     println!("cargo:rerun-if-env-changed=PLANNER_LIB");
