@@ -38,6 +38,7 @@ pub fn bad_stops(stops: &[u32]) -> bool
     64 < stops.len()
 }
 
+#[tactic(auto, using(std::proofs::lemmas::Bool::Decides::nat_tests), unfolding(model::specs::Refusals::bad_table))]
 pub fn bad_table(locations: u32, distances: &[u32]) -> bool
     ensures { result ≡ bad_table locations distances.now }
 {
@@ -80,6 +81,7 @@ pub fn bad_distances(distances: &[u32]) -> bool
     !all_below(distances, 200001)
 }
 
+#[tactic(auto, using(std::proofs::lemmas::Bool::Decides::nat_tests), unfolding(model::specs::Refusals::bad_prices))]
 pub fn bad_prices(prices: Prices) -> bool
     ensures { result ≡ bad_prices prices }
 {
@@ -92,6 +94,7 @@ pub fn bad_prices(prices: Prices) -> bool
     10000000000000 < prices.missed
 }
 
+#[tactic(auto, using(std::proofs::lemmas::Bool::Decides::nat_tests), unfolding(model::specs::Refusals::bad_smoothing))]
 pub fn bad_smoothing(smoothing: u32) -> bool
     ensures { result ≡ bad_smoothing smoothing }
 {
@@ -101,6 +104,7 @@ pub fn bad_smoothing(smoothing: u32) -> bool
     1000 < smoothing
 }
 
+#[tactic(auto, using(std::proofs::lemmas::Bool::Decides::nat_tests), unfolding(model::specs::Refusals::bad_limit))]
 pub fn bad_limit(limit: u32) -> bool
     ensures { result ≡ bad_limit limit }
 {
@@ -144,6 +148,7 @@ pub fn bad_cancellation(live: u64, stop: u32) -> bool
     !stop_set::contains(live, stop)
 }
 
+#[tactic(auto, using(std::proofs::lemmas::Bool::Decides::nat_tests), unfolding(model::specs::Refusals::bad_given))]
 pub fn bad_given(n: usize, given: &[u32]) -> bool
     requires { n ≤ 64 }
     ensures { result ≡ bad_given n given.now }

@@ -1,37 +1,52 @@
 // Prints, for each file that an argument names, its name and what the shuttle program prints for it.
 #![tactic(auto)]
 
-use libc::STDOUT_FILENO;
+use std::env::FillError;
+use std::fs::File;
+use std::rt::{Env, Files};
+use std::{io, str};
 
 // A file's name on a line, and what is printed for the file.
-fn print_file(name: &[u8]) {
-    io::write_all(STDOUT_FILENO, name);
-    io::write_all(STDOUT_FILENO, b"\n");
-    let fd = os::open_read(name);
-    if fd < 0 {
-        os::fail(name);
-        return;
+fn print_file<T: Files + Print + Eprint>(rt: &T, name: &str) -> io::Result<()> {
+    println!(rt; "{name}")?;
+    match File::open(rt, name) {
+        Ok(mut file) => {
+            shuttle_answers::print_answer(&mut file, name.as_bytes(), &mut io::writer(rt), rt);
+        }
+        Err(error) => {
+            let _ = eprintln!(rt; "{name}: {error}");
+        }
     }
-    shuttle_answers::print_answer(fd, name);
-    libc::close(fd);
+    Ok(())
 }
 
-fn print_argument(i: usize) {
-    let mut name = io::buffer();
-    let n = os::arg(i, &mut name);
-    if os::errno() != 0 {
-        os::fail(b"argument");
-        return;
+// What is printed for the file that an argument names: whether there is such an argument. One that is longer than a path may be, or is
+// no text, names no file, and that is told on standard error.
+fn print_argument<T: Env + Files + Print + Eprint>(rt: &T, i: usize) -> io::Result<bool> {
+    let mut name = [0u8; 4096];
+    let n = match rt.arg(i, &mut name) {
+        Ok(n) => n,
+        Err(FillError::NotPresent) => return Ok(false),
+        Err(FillError::TooLong) => {
+            let _ = eprintln!(rt; "argument: File name too long");
+            return Ok(true);
+        }
+    };
+    match str::from_utf8(&name[..n]) {
+        Ok(name) => print_file(rt, name)?,
+        Err(error) => {
+            let _ = eprintln!(rt; "argument: {error}");
+        }
     }
-    print_file(&name[..n]);
+    Ok(true)
 }
 
-fn main() {
-    let count = os::arg_count();
+fn main(rt: HostRuntime) -> io::Result<()> {
     // the first argument is the program's own name
-    let mut i: usize = 1;
-    while i < count {
-        print_argument(i);
-        i += 1;
+    for i in 1..usize::MAX {
+        if !print_argument(&rt, i)? {
+            break;
+        }
     }
+    Ok(())
 }

@@ -17,8 +17,8 @@ shorter-front from at xs ys h e = sym (take-take from at xs h) ∙ ap (take from
 
 -- one read more, after the position from which on the buffer is filled
 module _ (from at : ℕ) (first old new : List ℕ) (before : from ≤ at) (kept : take from old ≡ take from first) (a : Filled) (f : FilledFrom at old new a) where
-  pub still-failed : a ≡ Failed → take from new ≡ take from first
-  still-failed e = let k : FilledFrom at old new Failed = rw e at f in shorter-front from at new old before k ∙ kept
+  pub still-failed : (error : _) → a ≡ Failed error → take from new ≡ take from first
+  still-failed error e = let k : FilledFrom at old new (Failed error) = rw e at f in shorter-front from at new old before k ∙ kept
 
   pub filled_on : (n : ℕ) → a ≡ Bytes n → (at ≤ n) × (n ≤ length old) × (take from new ≡ take from first)
   filled_on n e =

@@ -54,4 +54,4 @@ module _ (from : ℕ) (old new : List ℕ) (room : from ≤ length old) (i : ℕ
 pub refilled : (from : ℕ) (old kept new : List ℕ) (n : ℕ) → Shifted from old kept n → (a : Filled) → FilledFrom n kept new a → Refilled from old new a
 refilled from old kept new n k (Bytes x) f =
     (omega (arith, f.0, k.count), omega (arith, f.1, k.long), ap (λ y. take y new) (sym k.count) ∙ f.2 ∙ k.front)
-refilled from old kept new n k Failed f = ap (λ y. take y new) (sym k.count) ∙ f ∙ k.front
+refilled from old kept new n k (Failed error) f = ap (λ y. take y new) (sym k.count) ∙ f ∙ k.front

@@ -6,7 +6,7 @@ use Rattle.file_input.specs.declared.Filled.TheVariants.{Bytes, Failed}
 -- the bytes before a position are as they were; after it there may be more, or a read failed
 abbrev pub FilledFrom : ℕ → List ℕ → List ℕ → Filled → Type 0
 FilledFrom at old new (Bytes n) = (at ≤ n) × (n ≤ length old) × (take at new ≡ take at old)
-FilledFrom at old new Failed = take at new ≡ take at old
+FilledFrom at old new (Failed error) = take at new ≡ take at old
 
 -- so many bytes, those from a position on, stand at the front
 pub record Shifted (from : ℕ) (old new : List ℕ) (r : ℕ) : Type 0 where
@@ -17,4 +17,4 @@ pub record Shifted (from : ℕ) (old new : List ℕ) (r : ℕ) : Type 0 where
 -- the bytes from a position on stand at the front; after them there may be more, or a read failed
 abbrev pub Refilled : ℕ → List ℕ → List ℕ → Filled → Type 0
 Refilled from old new (Bytes n) = (length old - from ≤ n) × (n ≤ length old) × (take (length old - from) new ≡ drop from old)
-Refilled from old new Failed = take (length old - from) new ≡ drop from old
+Refilled from old new (Failed error) = take (length old - from) new ≡ drop from old

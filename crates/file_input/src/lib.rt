@@ -1,38 +1,39 @@
-// Reading standard input, or another descriptor, into a buffer.
+// Reading standard input, or another reader, into a buffer.
 #![tactic(auto)]
 
 ghost use Rattle.std.specs.Prelude.{◌≤◌, length};
 ghost use Rattle.file_input.specs.Filling.{FilledFrom, Shifted, Refilled};
 
-// How many bytes of a buffer are filled, or that a read failed.
+use std::io::{Error, Read};
+
+// How many bytes of a buffer are filled, or why a read failed.
 #[derive(Clone, Copy)]
 pub enum Filled {
     Bytes(usize),
-    Failed,
+    Failed(Error),
 }
 
 // Reads once, to the bytes from a position on.
-fn read_once(fd: i32, buf: &mut [u8], at: usize) -> Filled
+fn read_once<R: Read>(input: &mut R, buf: &mut [u8], at: usize) -> Filled
     requires { at ≤ length buf.old }
     ensures { FilledFrom at buf.old buf.new result }
 {
-    let got = libc::read(fd, &mut buf[at..]);
-    if got < 0 {
-        return Filled::Failed;
+    match input.read(&mut buf[at..]) {
+        Ok(n) => Filled::Bytes(at + n),
+        Err(error) => Filled::Failed(error),
     }
-    let n = io::count(got, &buf[at..]);
-    Filled::Bytes(at + n)
 }
 
 // Reads to the bytes from a position on, until the buffer is full or the input ends.
-pub fn fill(fd: i32, buf: &mut [u8], from: usize) -> Filled
+pub fn fill<R: Read>(input: &mut R, buf: &mut [u8], from: usize) -> Filled
     requires { from ≤ length buf.old }
     ensures { FilledFrom from buf.old buf.new result }
 {
     let mut at = from;
     while at < buf.len() {
-        let Filled::Bytes(next) = read_once(fd, buf, at) else {
-            return Filled::Failed;
+        let next = match read_once(input, buf, at) {
+            Filled::Bytes(next) => next,
+            Filled::Failed(error) => return Filled::Failed(error),
         };
         if next == at {
             return Filled::Bytes(at);
@@ -57,10 +58,10 @@ fn keep_rest(buf: &mut [u8], from: usize) -> usize
 }
 
 // Keeps the bytes of a full buffer from a position on, and reads more after them.
-pub fn refill(fd: i32, buf: &mut [u8], from: usize) -> Filled
+pub fn refill<R: Read>(input: &mut R, buf: &mut [u8], from: usize) -> Filled
     requires { from ≤ length buf.old }
     ensures { Refilled from buf.old buf.new result }
 {
     let n = keep_rest(buf, from);
-    fill(fd, buf, n)
+    fill(input, buf, n)
 }

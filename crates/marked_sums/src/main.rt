@@ -9,8 +9,8 @@ ghost use Rattle.model.specs.Region.{drained};
 ghost use Rattle.model.specs.Rebuild.{begun, completed};
 ghost use Rattle.rebuild_words.specs.Gaps.{regions_of, Gapped};
 
-use libc::STDOUT_FILENO;
 use model::{Prices, Walk};
+use std::io;
 
 // What the walk over the arrangements of a plan's regions counts. All legs are 0 metres long, and nothing has a price.
 fn count(v: usize, n: usize, plan: &[u32], regions: &[u32]) -> Walk
@@ -63,11 +63,8 @@ fn six_on_three() -> Walk
 }
 
 // Prints both counts on a line.
-fn print_counts(walk: Walk) {
-    io::print_decimal(STDOUT_FILENO, walk.begun);
-    io::write_all(STDOUT_FILENO, b" ");
-    io::print_decimal(STDOUT_FILENO, walk.completed);
-    io::write_all(STDOUT_FILENO, b"\n");
+fn print_counts(rt: &impl Print, walk: Walk) -> io::Result<()> {
+    println!(rt; "{} {}", walk.begun, walk.completed)
 }
 
 // The first candidate of the pair.
@@ -93,16 +90,17 @@ fn second() -> [u32; 5]
 fn check_rows() {
     let a = first();
     let b = second();
-    check::expect(a[0] == 4);
-    check::expect(a[4] == 0);
-    check::expect(b[1] == 3);
-    check::expect(b[3] == 1);
+    prove!(a[0] == 4);
+    prove!(a[4] == 0);
+    prove!(b[1] == 3);
+    prove!(b[3] == 1);
 }
 
-fn main() {
-    print_counts(seven_in_one());
-    print_counts(six_in_two());
-    print_counts(in_none());
-    print_counts(six_on_three());
+fn main(rt: HostRuntime) -> io::Result<()> {
+    print_counts(&rt, seven_in_one())?;
+    print_counts(&rt, six_in_two())?;
+    print_counts(&rt, in_none())?;
+    print_counts(&rt, six_on_three())?;
     check_rows();
+    Ok(())
 }

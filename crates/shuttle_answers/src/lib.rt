@@ -11,8 +11,9 @@ ghost use Rattle.shuttle_answers.specs.Answers.{most_for_file, Runnable, Ready, 
 
 use file_input::Filled;
 use file_job::{Header, TaskRead};
-use libc::STDOUT_FILENO;
 use model::{Prices, Solved};
+use std::io::{self, Read, Write};
+use std::str;
 
 // Runs a task and prints the answer: how many bytes it is.
 fn run(
@@ -98,21 +99,37 @@ fn answer(bytes: &[u8], out: &mut [u8]) -> usize
     run_task(h, &vehicles, &stops, &distances, &draws, &mut plan, out)
 }
 
-// Writes what is printed for the file of a descriptor to standard output: how many bytes it is, and 0 where reading or writing fails.
-// Its name is for the message where reading fails.
-pub fn print_answer(fd: i32, name: &[u8]) -> usize
+// Tells on standard error what failed, by its name where that is text.
+fn tell<E: Eprint>(errors: &E, name: &[u8], error: io::Error) {
+    let _ = match str::from_utf8(name) {
+        Ok(name) => eprintln!(errors; "{name}: {error}"),
+        Err(_) => eprintln!(errors; "{error}"),
+    };
+}
+
+// Writes what is printed for the file of a reader to standard output, which is lent as a writer: how many bytes it is, and 0 where
+// reading or writing fails. What failed is told on standard error, where the reader goes by its name.
+pub fn print_answer<R: Read, W: Write, E: Eprint>(
+    input: &mut R,
+    name: &[u8],
+    output: &mut W,
+    errors: &E,
+) -> usize
     ensures { (result ≡ 0) ⊎ Printed result }
 {
     // one byte more than the longest job file has, so that a longer one is seen not to end there
     let mut bytes = [0u8; 106593];
-    let Filled::Bytes(n) = file_input::fill(fd, &mut bytes, 0) else {
-        os::fail(name);
-        return 0;
+    let n = match file_input::fill(input, &mut bytes, 0) {
+        Filled::Bytes(n) => n,
+        Filled::Failed(error) => {
+            tell(errors, name, error);
+            return 0;
+        }
     };
     let mut out = [0u8; 677];
     let m = answer(&bytes[0..n], &mut out);
-    if !io::write_all(STDOUT_FILENO, &out[0..m]) {
-        os::fail(b"standard output");
+    if let Err(error) = output.write_all(&out[0..m]) {
+        tell(errors, b"standard output", error);
         return 0;
     }
     m
