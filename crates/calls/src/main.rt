@@ -6,8 +6,8 @@ ghost use Rattle.sheet_lines.specs.Printed.{most_for_sheet};
 ghost use Rattle.calls.specs.Rest.{Ready, Keeps, Turned, AnswersAll};
 
 use file_input::Filled;
-use libc::{STDIN_FILENO, STDOUT_FILENO};
 use sheet_answer::SheetRead;
+use std::io::{Read, Write};
 
 // The most bytes that a sheet has: 15, 113, 1,345, and 106,592 of its job file. Where so many are left, nothing after them matters.
 const LONGEST: usize = 108065;
@@ -38,7 +38,13 @@ enum Ended {
 }
 
 // Reads on where fewer bytes are left than a sheet may have. A buffer that is not full holds the end of the input.
-fn more(bytes: &mut [u8], at: usize, end: usize) -> Left
+fn more<R: Read, E: Eprint>(
+    input: &mut R,
+    errors: &E,
+    bytes: &mut [u8],
+    at: usize,
+    end: usize,
+) -> Left
     requires { Ready at end bytes.old }
     ensures { Keeps at end bytes.old bytes.new result }
 {
@@ -48,20 +54,29 @@ fn more(bytes: &mut [u8], at: usize, end: usize) -> Left
     if LONGEST <= end - at {
         return Left::Bytes(at, end);
     }
-    let Filled::Bytes(n) = file_input::refill(STDIN_FILENO, bytes, at) else {
-        os::fail(b"standard input");
-        return Left::Nothing;
-    };
-    Left::Bytes(0, n)
+    match file_input::refill(input, bytes, at) {
+        Filled::Bytes(n) => Left::Bytes(0, n),
+        Filled::Failed(error) => {
+            let _ = eprintln!(errors; "standard input: {error}");
+            Left::Nothing
+        }
+    }
 }
 
 // Answers one sheet, with what is read for it.
-fn turn(bytes: &mut [u8], at: usize, end: usize, out: &mut [u8]) -> Outcome
+fn turn<R: Read, E: Eprint>(
+    input: &mut R,
+    errors: &E,
+    bytes: &mut [u8],
+    at: usize,
+    end: usize,
+    out: &mut [u8],
+) -> Outcome
     requires ready { Ready at end bytes.old }
     requires most_for_sheet_in_bounds { most_for_sheet ≤ length out.old }
     ensures { Turned at end bytes.old bytes.new out.old out.new result }
 {
-    let Left::Bytes(from, to) = more(bytes, at, end) else {
+    let Left::Bytes(from, to) = more(input, errors, bytes, at, end) else {
         return Outcome::Failed;
     };
     if from == to {
@@ -74,17 +89,27 @@ fn turn(bytes: &mut [u8], at: usize, end: usize, out: &mut [u8]) -> Outcome
 }
 
 // Writes to standard output: whether it was all written.
-fn print(text: &[u8]) -> bool {
-    if io::write_all(STDOUT_FILENO, text) {
-        return true;
+fn print<W: Write, E: Eprint>(output: &mut W, errors: &E, text: &[u8]) -> bool {
+    match output.write_all(text) {
+        Ok(()) => true,
+        Err(error) => {
+            let _ = eprintln!(errors; "standard output: {error}");
+            false
+        }
     }
-    os::fail(b"standard output");
-    false
 }
 
 // Answers sheet after sheet. A proved loop has to end, and nothing says that the input does: so the loop counts its turns down,
 // from a number (2^53) that no run uses up and after which the bytes printed can still be counted.
-fn answer_all(bytes: &mut [u8], start: usize, stop: usize, out: &mut [u8]) -> Ended
+fn answer_all<R: Read, W: Write, E: Eprint>(
+    input: &mut R,
+    output: &mut W,
+    errors: &E,
+    bytes: &mut [u8],
+    start: usize,
+    stop: usize,
+    out: &mut [u8],
+) -> Ended
     requires ready { Ready start stop bytes.old }
     requires out_len { length out.old ≡ most_for_sheet }
     ensures { AnswersAll start stop bytes.old result }
@@ -94,9 +119,9 @@ fn answer_all(bytes: &mut [u8], start: usize, stop: usize, out: &mut [u8]) -> En
     let mut printed: u64 = 0;
     let mut turns: u64 = 9007199254740992;
     while 0 < turns {
-        match turn(bytes, at, end, out) {
+        match turn(input, errors, bytes, at, end, out) {
             Outcome::Answered(next, to, n) => {
-                if !print(&out[0..n]) {
+                if !print(output, errors, &out[0..n]) {
                     return Ended::Failed;
                 }
                 at = next;
@@ -104,7 +129,7 @@ fn answer_all(bytes: &mut [u8], start: usize, stop: usize, out: &mut [u8]) -> En
                 printed += n as u64;
             }
             Outcome::Refused(n) => {
-                if !print(&out[0..n]) {
+                if !print(output, errors, &out[0..n]) {
                     return Ended::Failed;
                 }
                 return Ended::Refused(printed + n as u64);
@@ -121,9 +146,17 @@ fn answer_all(bytes: &mut [u8], start: usize, stop: usize, out: &mut [u8]) -> En
     Ended::Failed
 }
 
-fn main() {
+fn main(rt: HostRuntime) {
     let mut bytes = [0u8; 262144];
     let mut out = [0u8; 1446];
     // nothing is left of a full buffer, so that the first turn reads
-    answer_all(&mut bytes, 262144, 262144, &mut out);
+    answer_all(
+        &mut rt.stdin(),
+        &mut rt.stdout(),
+        &rt,
+        &mut bytes,
+        262144,
+        262144,
+        &mut out,
+    );
 }
