@@ -6,6 +6,9 @@ ghost use Rattle.file_columns.specs.Field.{Next, FieldAt, NumberAt, last_column}
 ghost use Rattle.file_columns.specs.Put.{written, Puttable};
 ghost use Rattle.model.specs.File.{dash, digits, justified, columns, signed_columns};
 
+// The largest number that a list may hold.
+const LARGEST: u64 = 4294967295;
+
 // What a field of 14 columns holds.
 #[derive(Clone, Copy)]
 pub enum Field {
@@ -78,7 +81,7 @@ pub fn number_at(bytes: &[u8], at: usize) -> u32
     let Field::Number(n) = read_field(bytes, at) else {
         return 0;
     };
-    if 4294967295 < n {
+    if LARGEST < n {
         return 0;
     }
     n as u32

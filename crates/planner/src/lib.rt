@@ -105,7 +105,8 @@ pub fn rebuild(
     let mut legs = [0u32; 6400];
     distance::leg_table(vehicles, stops, locations, distances, &mut legs);
     let v = vehicles.len() / 2;
-    Rebuilt::Walked(rebuild::rebuild(&legs, v, stops.len(), prices, plan, given))
+    let w = rebuild::rebuild(&legs, v, stops.len(), prices, plan, given);
+    Rebuilt::Walked(w)
 }
 
 // Writes the plan that the exhaustive solver chooses, and weighs it.

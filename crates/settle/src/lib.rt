@@ -48,9 +48,12 @@ pub fn after_round(a: Averages, old: f64, new: f64, smoothing: u32) -> Averages
     }
 }
 
+// No run settles before so many rounds.
+const LEAST_ROUNDS: u32 = 10;
+
 // Whether ten rounds are done and the gain per round has fallen to a hundredth of that per improving round.
 pub fn settled(a: Averages, rounds: u32) -> bool
     ensures { result ≡ settles rounds a }
 {
-    10 <= rounds && a.delta <= a.update * 0.01
+    LEAST_ROUNDS <= rounds && a.delta <= a.update * 0.01
 }

@@ -137,6 +137,9 @@ fn write_candidate(
     write_pair(old, plan, v, n, a, ta, i, b, tb, j, code);
 }
 
+// The code of the plan as it is.
+const OLD_PLAN: usize = 0;
+
 // The two-opt move of stop s on route a and stop t on route b of a plan: the kept candidate is written, unless it is the old plan.
 pub fn inter(
     legs: &[u32],
@@ -156,7 +159,7 @@ pub fn inter(
 {
     let best = least_of_plan(legs, v, n, prices, plan, a, s, b, t);
     let code = best.code;
-    if code == 0 {
+    if code == OLD_PLAN {
         return;
     }
     let mut old = [0u32; 80];

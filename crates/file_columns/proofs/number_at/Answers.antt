@@ -7,8 +7,8 @@ returns-in_default c =
     let read = c.read_field in
     none-there _ _ read.result read.ensures c.in_default.is
 
-pub returns-then-n-gt4294967295 : goal.returns-then-n-gt4294967295
-returns-then-n-gt4294967295 c =
+pub returns-then-n-gt-LARGEST : goal.returns-then-n-gt-LARGEST
+returns-then-n-gt-LARGEST c =
     let read = c.read_field in
     too-large _ _ read.result read.ensures _ c.in-Number.is (omega arith)
 

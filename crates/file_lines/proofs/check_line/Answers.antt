@@ -25,4 +25,4 @@ returns-then-bytes-end-ne10 c h = c.if-bytes-end-ne10.true (line-end _ _ _ h).1
 
 pub returns : goal.returns
 returns c =
-    line-whole _ _ _ (said c.check_fields.result (ap not c.if-not-check_fields.false) c.check_fields.ensures) (omega arith) c.if-bytes-end-ne10.false
+    line-whole _ _ _ (said c.check_fields.result (ap not c.if-not-check_fields.false) c.check_fields.ensures) (omega arith) (omega arith)

@@ -15,7 +15,7 @@ exchanged s =
 
 pub replace_in_order-requires : goal.replace_in_order-requires
 replace_in_order-requires c =
-    record { sizes = c.requires.sizes; lent = c.requires.lent; len = c.requires.len; a_lt_b = (c.if-a-b.true, c.requires.a_lt_v.1); bound = c.requires.bound }
+    record { sizes = c.requires.sizes; lent = c.requires.lent; len = c.requires.len; a_lt_b = (omega arith, c.requires.a_lt_v.1); bound = c.requires.bound }
 
 pub replace_in_order-requires-else-a-b : goal.replace_in_order-requires-else-a-b
 replace_in_order-requires-else-a-b c =

@@ -27,10 +27,10 @@ returns-then-refused-ne0 c = rebuilds-refused (given (goal.at.returns-then-refus
 pub leg_table-requires : goal.leg_table-requires
 leg_table-requires c = ((listed Rebuild (given (goal.at.leg_table-requires c).After-of_rebuild-refused) (not-refused (goal.at.leg_table-requires c).Else-refused-ne0)).limits refl, search rules)
 
-pub rebuild-requires : goal.rebuild-requires
-rebuild-requires c =
-    let A = given (goal.at.rebuild-requires c).After-of_rebuild-refused in
-    let e = not-refused (goal.at.rebuild-requires c).Else-refused-ne0 in
+pub rebuild-w-requires : goal.rebuild-w-requires
+rebuild-w-requires c =
+    let A = given (goal.at.rebuild-w-requires c).After-of_rebuild-refused in
+    let e = not-refused (goal.at.rebuild-w-requires c).Else-refused-ne0 in
     (record { legs = c.leg_table.ensures.legs; sizes = (listed Rebuild A e).sizes; prices = affordable Rebuild A e refl; plan = lent Rebuild A e refl }, (stops Rebuild A e refl).few)
 
 pub returns : goal.returns
@@ -38,6 +38,6 @@ unfolding made begun_by completed_by
 returns c =
     let A = given (goal.at.returns c).After-of_rebuild-refused in
     let e = not-refused (goal.at.returns c).Else-refused-ne0 in
-    let d = c.rebuild.ensures in
+    let d = c.rebuild-w.ensures in
     let f = c.leg_table.ensures.fits A.job.prices in
     rebuilds-accepted A _ _ e (d.cost A.job f) d.begun d.completed (d.plan A.job f)

@@ -15,12 +15,9 @@ lent_length m h = ap length (take-replicate m 96 0 h) ∙ length-replicate m 0
 lent-printable : (m : ℕ) (out : List ℕ) → m ≤ 96 → most_for_sheet ≤ length out → Printable (take m (replicate 96 0)) out
 lent-printable m out h room = record { short = rw (lent_length m h) h; room = room }
 
-other : (call : ℕ) → 10 ≤ call → call ≤ 11 → (call ≡ 10 → ⊥) → call ≡ 11
-other call l h n = omega arith
-
 pub bounds-given-0 : goal.bounds-given-0
 bounds-given-0 c =
-    omega (arith, c.requires.runs.counted 10 c.if-call-eq10.true refl)
+    omega (arith, c.requires.runs.counted 10 (omega arith) refl)
 
 pub slice_bounds-view-end : goal.slice_bounds-view-end
 slice_bounds-view-end c =
@@ -37,9 +34,9 @@ returns-then-call-eq10 c =
 
 pub move_stop-requires : goal.move_stop-requires
 move_stop-requires c =
-    record { printable = c.requires.runs.printable; given_len = c.requires.runs.counted 11 (other _ c.requires.le_call.0 c.requires.le_call.1 c.if-call-eq10.false) refl }
+    record { printable = c.requires.runs.printable; given_len = c.requires.runs.counted 11 (omega (arith, c.requires.le_call)) refl }
 
 pub returns : goal.returns
 returns c =
     let f = c.move_stop.ensures in
-    ran_move _ _ _ c.args.call c.args.given.now c.args.plan.now _ _ (other _ c.requires.le_call.0 c.requires.le_call.1 c.if-call-eq10.false) f.plan_after f.prints
+    ran_move _ _ _ c.args.call c.args.given.now c.args.plan.now _ _ (omega (arith, c.requires.le_call)) f.plan_after f.prints

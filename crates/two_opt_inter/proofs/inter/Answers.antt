@@ -8,11 +8,11 @@ use Rattle.two_opt_inter.proofs.inter.Goals.{After-paste-m}
 copy : (c : After-paste-m) → Front c.paste-m.new.to c.paste-m.result c.args.plan.now
 copy c = front _ c.paste-m.new.to c.args.plan.now c.paste-m.result c.paste-m.ensures.to_after (omega (arith, c.paste-m.ensures.value))
 
-pub returns-then-code-eq0 : goal.returns-then-code-eq0
-returns-then-code-eq0 c =
+pub returns-then-code-eq-OLD_PLAN : goal.returns-then-code-eq-OLD_PLAN
+returns-then-code-eq-OLD_PLAN c =
     let k = c.least_of_plan-best in
     let a = c.args in
-    let parts = left (the-pair c.requires.ready c.requires.on_two_routes) a.legs.now a.prices k.result.code a.plan.now k.ensures (left-old (the-pair c.requires.ready c.requires.on_two_routes) k.result.code c.if-code-eq0.true) in record { plan_after = parts.0; lent = parts.1 }
+    let parts = left (the-pair c.requires.ready c.requires.on_two_routes) a.legs.now a.prices k.result.code a.plan.now k.ensures (left-old (the-pair c.requires.ready c.requires.on_two_routes) k.result.code c.if-code-eq-OLD_PLAN.true) in record { plan_after = parts.0; lent = parts.1 }
 
 pub slice_bounds-write_candidate-end : goal.slice_bounds-write_candidate-end
 slice_bounds-write_candidate-end c = (copy (goal.at.slice_bounds-write_candidate-end c).After-paste-m).size

@@ -22,7 +22,7 @@ loop-s-preserved c =
     let a = c.args in (
       omega arith,
       set-over (decode a.v a.plan.now) a.n c.placed_set-placed.result c.placed_set-placed.ensures c.requires.0.stops c.loop-s.s c.loop-s.set c.loop-s-test.true
-          c.loop-s.invariant.0 c.loop-s.invariant.1 c.contains.result c.contains.ensures (ap not c.if-not-contains.false),
+          c.loop-s.invariant.0 c.loop-s.invariant.1 c.contains.result c.contains.ensures (grind arith),
     )
 
 pub returns : goal.returns
