@@ -17,6 +17,7 @@ pub mod Live
 pub mod Vans
 pub mod Roads
 pub mod Refusals
+pub mod Numbers
 pub mod Calls
 pub mod File
 pub mod Promise

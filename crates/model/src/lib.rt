@@ -1,6 +1,10 @@
 // The plain data that the other crates share, so that their code and the definitions of specs/ speak of the same values.
 #![tactic(auto)]
 
+mod refusal;
+
+pub use refusal::Refusal;
+
 // The prices of a job: for each metre of a route, for its square, and for each stop that is not on a route.
 #[derive(Clone, Copy)]
 pub struct Prices {
