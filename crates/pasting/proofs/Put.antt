@@ -1,24 +1,14 @@
--- Laws of `put`, and of the loops that copy.
-use Prim.Native.Nat.{ℕ, ◌+◌, ◌-◌, ◌<◌, ◌≤◌, zero-le}
+-- Laws of `put`.
+use Prim.Native.Nat.{ℕ, ◌+◌, ◌-◌, ◌≤◌, zero-le}
 use native.Mathlib.Omega.{arith}
-use native.Mathlib.Numerals.{add-one}
-use native.Mathlib.Nat.{add_assoc, zero-add}
+use native.Mathlib.Nat.{add_assoc}
 use mathlib.Core.Path.{◌≡◌, sym, ap, ◌∙◌}
 use mathlib.Core.List.{List, ◌++◌, append_assoc, append-nil}
-use lib.ListN.{length, get_or, take, drop, set, replicate, length-append, length-drop, drop_of_length-le}
-use lib.Seq.{paste, paste-suc, take-length, take_at, drop_at, drop-drop, length-take-le, drop-length}
+use lib.ListN.{length, take, drop, replicate, length-append, length-drop, drop_of_length-le}
+use lib.Seq.{take_at, drop_at, drop-drop, length-take-le}
 use Rattle.model.specs.Plan.{unused}
 use Rattle.model.proofs.Lists.{part_end}
 use Rattle.pasting.specs.Put.{put, area_of}
-
--- a turn's store takes the copy of i elements of s to the copy of i + 1
-pub turn : (d dst s : List ℕ) (at i x : ℕ) → dst ≡ paste d at s i → at + i < length d → i < length s → x ≡ get_or s i 0
-    → set dst (at + i) x ≡ paste d at s (i + 1)
-turn d dst s at i x e hd hs ex = rw (e, ex, add-one) (paste-suc d at s i 0 hd hs)
-
--- the copy of all elements is the whole
-pub pasted : (d dst s : List ℕ) (at i : ℕ) → dst ≡ paste d at s i → i ≡ length s → dst ≡ put d at s
-pasted d dst s at i e h = rw (e, h, take-length, append_assoc)
 
 -- what is put, with what stands before it
 pub put-head : (d s : List ℕ) (at : ℕ) → at ≤ length d → length (take at d ++ s) ≡ at + length s
@@ -46,10 +36,6 @@ pub joined : (d d₁ d₂ s t : List ℕ) (at m r : ℕ) → at ≤ length d →
     → (r ≡ at + length s + length t) × (d₂ ≡ put d at (s ++ t))
 joined d d₁ d₂ s t at m r h em e₁ er e₂ = (omega arith, rw (e₂, e₁, em) (put-put d s t at h))
 
--- a list put over the whole of another is all that is left
-pub put_all : (d s : List ℕ) → length s ≡ length d → put d 0 s ≡ s
-put_all d s h = rw (zero-add, h, drop-length, append-nil)
-
 -- the same, piece by piece
 pub put_on : (d d₁ s t : List ℕ) (m : ℕ) → d₁ ≡ put d 0 s → m ≡ length s → put d₁ m t ≡ put d 0 (s ++ t)
 put_on d d₁ s t m e em = let em' : m ≡ 0 + length s = omega arith in rw (e, em') (put-put d s t 0 zero-le)
@@ -69,10 +55,6 @@ pub lent-long : (v : ℕ) (xs ys : List ℕ) → v ≤ length xs → length ys �
 lent-long v xs ys h e =
     let l : length ys ≡ length (drop v xs) = rw part_end at e in
     rw lent-rest (omega (arith, length-append (take v xs) ys, length-take-le v xs h, length-drop v xs))
-
--- a fill that has reached the end
-pub filled : (d to : List ℕ) (i x : ℕ) → to ≡ replicate i x ++ drop i d → i ≡ length d → to ≡ replicate (length d) x
-filled d to i x e h = rw (e, h, drop-length, append-nil)
 
 -- ---- the stops area
 

@@ -10,12 +10,9 @@ pub fn paste(to: &mut [u32], at: usize, from: &[u32]) -> usize
     ensures value { result ≡ at + length from.now }
     ensures to_after { to.new ≡ put to.old at from.now }
 {
-    let mut i = 0;
-    while i < from.len() {
-        to[at + i] = from[i];
-        i += 1;
-    }
-    at + i
+    let end = at + from.len();
+    to[at..end].copy_from_slice(from);
+    end
 }
 
 // The same, last number first.
@@ -24,12 +21,11 @@ pub fn paste_reversed(to: &mut [u32], at: usize, from: &[u32]) -> usize
     ensures value { result ≡ at + length from.now }
     ensures to_after { to.new ≡ put to.old at (reverse from.now) }
 {
-    let mut i = 0;
-    while i < from.len() {
-        to[at + i] = from[from.len() - 1 - i];
-        i += 1;
-    }
-    at + i
+    let end = at + from.len();
+    let part = &mut to[at..end];
+    part.copy_from_slice(from);
+    part.reverse();
+    end
 }
 
 // Writes head and then tail, and returns where they end.
@@ -47,16 +43,12 @@ pub fn copy_plan(from: &[u32], to: &mut [u32])
     requires { length from.now ≡ length to.old }
     ensures { to.new ≡ from.now }
 {
-    paste(to, 0, from);
+    to.copy_from_slice(from);
 }
 
 // Writes x into every place.
 pub fn fill(to: &mut [u32], x: u32)
     ensures { to.new ≡ replicate (length to.old) x }
 {
-    let mut i = 0;
-    while i < to.len() {
-        to[i] = x;
-        i += 1;
-    }
+    to.fill(x);
 }
