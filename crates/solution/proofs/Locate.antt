@@ -2,6 +2,7 @@
 use Prim.Native.Nat.{ℕ, suc, ◌+◌, ◌-◌, ◌<◌, ◌≤◌}
 use native.Mathlib.Omega.{arith}
 use mathlib.Core.Path.{◌≡◌, refl, sym, ap, ◌∙◌}
+use Rattle.std.proofs.Common.{Some, None}
 use mathlib.Core.Bool.{Bool, true, false, cond, ◌||◌, true≢false}
 use mathlib.Core.List.{List, [], ◌∷◌, ◌++◌}
 use native.Mathlib.Numerals.{add-one}
@@ -13,7 +14,6 @@ use Rattle.model.specs.Plan.{route_of, vehicle_of, is_placed, decode, Lent}
 use Rattle.model.proofs.Lists.{sum_more, position-lt}
 use Rattle.model.proofs.PlanForm.{route-part, route-length, lent_length}
 use Rattle.model.proofs.Locate.{vehicle-only, vehicle-lt, vehicle-has, route-placed}
-use Rattle.solution.specs.declared.Found.TheVariants.{At, Nowhere}
 use Rattle.solution.specs.Places.{place_of}
 
 -- the first position in two lists, one after the other
@@ -33,10 +33,10 @@ Passed v xs s k = (j : ℕ) → j < k → member s (route_of (decode v xs) j) �
 
 module _ (v n : ℕ) (xs : List ℕ) (p : Lent v n xs) (s : ℕ) where
   -- all routes were passed
-  pub nowhere : (k : ℕ) → v ≤ k → Passed v xs s k → Nowhere ≡ place_of s (decode v xs)
+  pub nowhere : (k : ℕ) → v ≤ k → Passed v xs s k → None ≡ place_of s (decode v xs)
   nowhere k g f = go (is_placed s (decode v xs)) refl
     where
-      go : (t : Bool) → is_placed s (decode v xs) ≡ t → Nowhere ≡ place_of s (decode v xs)
+      go : (t : Bool) → is_placed s (decode v xs) ≡ t → None ≡ place_of s (decode v xs)
       go true on =
           let h : vehicle_of s (decode v xs) < k = omega (arith, vehicle-lt s (decode v xs) on, lent_length v n xs p) in
           absurd (true≢false (sym (vehicle-has s (decode v xs) on) ∙ f (vehicle_of s (decode v xs)) h))
@@ -64,10 +64,10 @@ module _ (v n : ℕ) (xs : List ℕ) (p : Lent v n xs) (s : ℕ) where
         in
         e ∙ ap (position s) split ∙ rw as_long at (position-append s route rest)
 
-    pub found : at < get_or xs k 0 → At (record { vehicle = k; position = at }) ≡ place_of s (decode v xs)
+    pub found : at < get_or xs k 0 → Some (record { vehicle = k; position = at }) ≡ place_of s (decode v xs)
     found g = go (member s route) refl
       where
-        go : (t : Bool) → member s route ≡ t → At (record { vehicle = k; position = at }) ≡ place_of s (decode v xs)
+        go : (t : Bool) → member s route ≡ t → Some (record { vehicle = k; position = at }) ≡ place_of s (decode v xs)
         go true m =
             let here : at ≡ position s route = rw m at apart in
             rw (route-placed s (decode v xs) k m, vehicle-only s (decode v xs) k p.once m, here)

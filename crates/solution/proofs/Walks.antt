@@ -2,14 +2,18 @@
 use Prim.Native.Nat.{ℕ, ◌+◌, ◌<◌}
 use native.Mathlib.Omega.{arith}
 use native.Mathlib.Numerals.{add-one}
-use mathlib.Core.Path.{◌≡◌, sym}
-use mathlib.Core.Bool.{Bool, true, false}
+use mathlib.Core.Path.{◌≡◌, refl, sym, ◌∙◌}
+use mathlib.Core.Bool.{Bool, true, false, cond}
 use mathlib.Core.List.{List, [], ◌∷◌}
-use lib.Dec.{ltb}
+use lib.Dec.{ltb, eqb}
 use lib.ListN.{length, get_or, drop, replicate}
 use lib.Seq.{drop-cons, drop-length}
-use borrow.Author.Tests.{eq-eqb, ne_eqb}
-use Rattle.model.specs.Lists.{same, lower, position}
+use borrow.Author.Tests.{eq-eqb, ne_eqb, ltb-true, eqb-true}
+use Rattle.std.specs.List.{fold, sum as std_sum}
+use Rattle.std.specs.Ordering.{nat_cmp, is_lt, is_some_and}
+use Rattle.std.specs.Cmp.Lexicographic.{slice_partial_cmp}
+use Rattle.std.proofs.Common.{Some}
+use Rattle.model.specs.Lists.{sum, same, lower, position}
 
 -- the places from the i-th on, the first of them apart
 pub from-here : (xs : List ℕ) (i : ℕ) → i < length xs → drop i xs ≡ get_or xs i 0 ∷ drop (i + 1) xs
@@ -37,16 +41,30 @@ module _ (u : ℕ) (xs : List ℕ) (i : ℕ) where
 
 -- ---- the lower of two lists
 
-module _ (xs ys : List ℕ) (i : ℕ) where
-  pub lower-end : i ≡ length xs → lower (drop i xs) (drop i ys) ≡ false
-  lower-end e = rw (from_end xs i e)
+-- of two lists of one length the lower is the one that the library's order says
+pub lower-cmp : (xs ys : List ℕ) → length xs ≡ length ys
+    → is_some_and is_lt (slice_partial_cmp (λ x y. Some (nat_cmp x y)) xs ys) ≡ lower xs ys
+lower-cmp [] [] h = refl
+lower-cmp [] (y ∷ ys) h = absurd (omega arith)
+lower-cmp (x ∷ xs) [] h = absurd (omega arith)
+lower-cmp (x ∷ xs) (y ∷ ys) h = go (lower-cmp xs ys (omega arith)) (ltb x y) (eqb x y) refl refl
+  where
+    go : is_some_and is_lt (slice_partial_cmp (λ x y. Some (nat_cmp x y)) xs ys) ≡ lower xs ys → (s t : Bool) → ltb x y ≡ s → eqb x y ≡ t
+        → is_some_and is_lt (slice_partial_cmp (λ x y. Some (nat_cmp x y)) (x ∷ xs) (y ∷ ys)) ≡ cond t (lower xs ys) s
+    go e true true p q = absurd (omega (arith, ltb-true x y p, eqb-true x y q))
+    go e true false p q = rw p
+    go e false true p q = rw (p, q) e
+    go e false false p q = rw (p, q)
 
-  module _ (h : i < length xs) (k : i < length ys) where
-    pub lower-more : get_or xs i 0 ≡ get_or ys i 0 → lower (drop i xs) (drop i ys) ≡ lower (drop (i + 1) xs) (drop (i + 1) ys)
-    lower-more e = rw (from-here xs i h, from-here ys i k, eq-eqb (get_or xs i 0) (get_or ys i 0) e)
+-- ---- a sum
 
-    pub lower-here : (get_or xs i 0 ≡ get_or ys i 0 → ⊥) → lower (drop i xs) (drop i ys) ≡ ltb (get_or xs i 0) (get_or ys i 0)
-    lower-here e = rw (from-here xs i h, from-here ys i k, ne_eqb (get_or xs i 0) (get_or ys i 0) e)
+-- the library's sum is the model's
+pub sum-is : (xs : List ℕ) → std_sum xs ≡ sum xs
+sum-is xs = from 0 xs ∙ omega arith
+  where
+    from : (a : ℕ) (xs : List ℕ) → fold (λ b x. b + x) a xs ≡ a + sum xs
+    from a [] = omega arith
+    from a (x ∷ xs) = from (a + x) xs ∙ omega arith
 
 -- ---- the first place of x
 

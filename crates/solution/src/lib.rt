@@ -12,13 +12,7 @@ pub fn sum_lengths(plan: &[u32], v: usize) -> usize
     requires { (v ≤ 16) × (v ≤ length plan.now) }
     ensures { result ≡ sum (take v plan.now) }
 {
-    let mut total = 0;
-    let mut i = 0;
-    while i < v {
-        total += plan[i] as usize;
-        i += 1;
-    }
-    total
+    plan[..v].iter().map(|length| *length as usize).sum()
 }
 
 // Whether the number at the first place where the two differ is lower in a.
@@ -26,16 +20,7 @@ pub fn lower(a: &[u32], b: &[u32]) -> bool
     requires { length a.now ≡ length b.now }
     ensures { result ≡ lower a.now b.now }
 {
-    let mut i = 0;
-    while i < a.len() {
-        let x = a[i];
-        let y = b[i];
-        if x != y {
-            return x < y;
-        }
-        i += 1;
-    }
-    false
+    a < b
 }
 
 // Where route k begins, and for k = v where the unused places do.
@@ -64,10 +49,8 @@ fn set_of(part: &[u32]) -> u64
     ensures { SetOf part.now result }
 {
     let mut set: u64 = 0;
-    let mut i = 0;
-    while i < part.len() {
-        set = stop_set::with(set, part[i]);
-        i += 1;
+    for stop in part {
+        set = stop_set::with(set, *stop);
     }
     set
 }
@@ -88,9 +71,7 @@ pub fn position(part: &[u32], stop: u32) -> usize
     ensures { result ≡ position stop part.now }
 {
     let mut at = part.len();
-    let mut i = part.len();
-    while 0 < i {
-        i -= 1;
+    for i in (0..part.len()).rev() {
         if part[i] == stop {
             at = i;
         }
@@ -105,30 +86,22 @@ pub struct Place {
     pub position: usize,
 }
 
-#[derive(Clone, Copy)]
-pub enum Found {
-    At(Place),
-    Nowhere,
-}
-
 // Where a stop is in a plan: its position in the whole stops area, less the lengths of the routes before its own. Unused places come after all routes.
-pub fn find(plan: &[u32], v: usize, n: usize, stop: u32) -> Found
+pub fn find(plan: &[u32], v: usize, n: usize, stop: u32) -> Option<Place>
     requires sizes { Sizes v n }
     requires lent { Lent v n plan.now }
     ensures { result ≡ place_of stop (decode v plan.now) }
 {
     let mut at = position(&plan[v..], stop);
-    let mut k = 0;
-    while k < v {
+    for k in 0..v {
         let size = plan[k] as usize;
         if at < size {
-            return Found::At(Place {
+            return Some(Place {
                 vehicle: k,
                 position: at,
             });
         }
         at -= size;
-        k += 1;
     }
-    Found::Nowhere
+    None
 }

@@ -1,5 +1,5 @@
 -- `solution::find`: the routes before k do not have the stop, and `at` is its position among the places from route k on.
-use Prim.Native.Nat.{◌+◌, ◌-◌, ◌≤◌}
+use Prim.Native.Nat.{◌+◌}
 use mathlib.Core.Path.{◌≡◌}
 use lib.ListN.{take, drop}
 use Rattle.model.specs.Lists.{sum, position}
@@ -7,7 +7,4 @@ use Rattle.solution.proofs.Locate.{Passed}
 use Rattle.solution.proofs.find.Given as goal
 
 abbrev pub invariant-loop-k : goal.invariant-loop-k
-invariant-loop-k l = (l.k ≤ l.v) × (l.at ≡ position l.stop (drop (l.v + sum (take l.k l.plan)) l.plan)) × Passed l.v l.plan l.stop l.k
-
-abbrev pub decreases-loop-k : goal.decreases-loop-k
-decreases-loop-k l = l.v - l.k
+invariant-loop-k l = (l.at ≡ position l.stop (drop (l.v + sum (take l.k l.plan)) l.plan)) × Passed l.v l.plan l.stop l.k

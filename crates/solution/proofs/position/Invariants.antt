@@ -7,6 +7,3 @@ use Rattle.solution.proofs.position.Given as goal
 
 abbrev pub invariant-loop-i : goal.invariant-loop-i
 invariant-loop-i l = (l.i ≤ length l.part) × (l.at ≡ l.i + position l.stop (drop l.i l.part))
-
-abbrev pub decreases-loop-i : goal.decreases-loop-i
-decreases-loop-i l = l.i

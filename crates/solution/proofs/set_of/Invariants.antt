@@ -1,10 +1,7 @@
-use Prim.Native.Nat.{◌-◌, ◌^◌, ◌≤◌, ◌<◌}
-use lib.ListN.{length, take}
+use Prim.Native.Nat.{◌^◌, ◌<◌}
+use lib.ListN.{take}
 use Rattle.solution.proofs.Sets.{Holds}
 use Rattle.solution.proofs.set_of.Given as goal
 
-abbrev pub invariant-loop-i : goal.invariant-loop-i
-invariant-loop-i l = (l.i ≤ length l.part) × (l.set < 2 ^ 64) × Holds (take l.i l.part) l.set
-
-abbrev pub decreases-loop-i : goal.decreases-loop-i
-decreases-loop-i l = length l.part - l.i
+abbrev pub invariant-loop-stop : goal.invariant-loop-stop
+invariant-loop-stop l = (l.set < 2 ^ 64) × Holds (take l.stop-index l.part) l.set
