@@ -96,10 +96,8 @@ fn place_ends(vehicles: &[u32], stops: &[u32], locations: u32, ends: &mut [u32; 
     requires { (length vehicles.now ≤ 32) × (length stops.now ≤ 64) × (length ends.old ≡ 80) }
     ensures { (ds : List ℕ) (p : Prices) → EndsOf (job_of vehicles.now stops.now locations ds p) 80 ends.new }
 {
-    let mut i = 0;
-    while i < 80 {
+    for i in 0..80 {
         ends[i] = end_of(vehicles, stops, locations, i);
-        i += 1;
     }
 }
 
@@ -115,10 +113,8 @@ fn fill_row(
     requires { Square locations distances.now × (length legs.old ≡ 6400) × (first + 80 ≤ 6400) }
     ensures { Row distances.now locations from ends.now first 80 legs.old legs.new }
 {
-    let mut i = 0;
-    while i < 80 {
+    for i in 0..80 {
         legs[first + i] = metres(locations, distances, from, ends[i]);
-        i += 1;
     }
 }
 
@@ -135,11 +131,9 @@ pub fn leg_table(
 {
     let mut ends = [0u32; 80];
     place_ends(vehicles, stops, locations, &mut ends);
-    let mut i = 0;
-    while i < 80 {
+    for i in 0..80 {
         let from = start_of(vehicles, stops, locations, i);
         fill_row(locations, distances, from, &ends, legs, 80 * i);
-        i += 1;
     }
 }
 
@@ -150,12 +144,10 @@ pub fn route_length(legs: &[u32], vehicle: usize, route: &[u32]) -> u32
 {
     let mut sum: u32 = 0;
     let mut here = 64 + vehicle;
-    let mut i = 0;
-    while i < route.len() {
-        let next = route[i] as usize;
+    for stop in route {
+        let next = *stop as usize;
         sum += leg(legs, here, next);
         here = next;
-        i += 1;
     }
     sum + leg(legs, here, 64 + vehicle)
 }

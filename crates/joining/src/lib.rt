@@ -130,13 +130,9 @@ pub fn replace_two(
 fn shift_in(part: &mut [u32], x: u32)
     ensures { part.new ≡ take (length part.old) (x ∷ part.old) }
 {
-    let mut carried = x;
-    let mut i = 0;
-    while i < part.len() {
-        let next = part[i];
-        part[i] = carried;
-        carried = next;
-        i += 1;
+    if let Some(last) = part.len().checked_sub(1) {
+        part[last] = x;
+        part.rotate_right(1);
     }
 }
 
@@ -156,13 +152,8 @@ fn shift_out(part: &mut [u32])
     requires { 1 ≤ length part.old }
     ensures { part.new ≡ drop 1 part.old ++ (unused ∷ []) }
 {
-    let last = part.len() - 1;
-    let mut i = 0;
-    while i < last {
-        part[i] = part[i + 1];
-        i += 1;
-    }
-    part[last] = 4294967295;
+    part[0] = 4294967295;
+    part.rotate_left(1);
 }
 
 // Takes the stop at place i of route k out.

@@ -7,26 +7,24 @@ use Rattle.distance.proofs.fill_row.Goals.{At-loop-i}
 
 -- the row's cells are inside the table
 room : (t : At-loop-i) → t.loop-i.i < 80 → t.args.first + t.loop-i.i < length t.loop-i.legs
-room t h = omega (arith, t.loop-i.invariant.1.long, t.requires)
+room t h = omega (arith, t.loop-i.invariant.long, t.requires)
 
 pub loop-i-init : goal.loop-i-init
-loop-i-init c = (omega arith, row-begins _ _ _ _ _ _)
+loop-i-init c = row-begins _ _ _ _ _ _
 
 pub metres-requires : goal.metres-requires
 metres-requires c = c.requires.0
 
 pub loop-i-preserved : goal.loop-i-preserved
 loop-i-preserved c =
-    let a = c.args in (
-      omega arith,
-      row_more a.distances.now a.locations a.from a.ends.now a.first c.loop-i.i a.legs.now c.loop-i.legs c.metres.result
-          c.loop-i.invariant.1 (room (goal.at.loop-i-preserved c).At-loop-i c.loop-i-test.true) c.metres.ensures,
-    )
+    let a = c.args in
+    row_more a.distances.now a.locations a.from a.ends.now a.first c.loop-i.i a.legs.now c.loop-i.legs c.metres.result
+    c.loop-i.invariant (room (goal.at.loop-i-preserved c).At-loop-i c.loop-i-test.true) c.metres.ensures
 
 pub shape_of-legs : goal.shape_of-legs
-shape_of-legs c = c.loop-i.invariant.1.long
+shape_of-legs c = c.loop-i.invariant.long
 
 pub returns : goal.returns
 returns c =
-    let r = c.loop-i.invariant.1 in
+    let r = c.loop-i.invariant in
     record { long = r.long; kept = r.kept; row = λ k h. r.row k (omega arith) }

@@ -1,10 +1,6 @@
 -- The invariant: the cells passed are filled.
-use Prim.Native.Nat.{◌-◌, ◌≤◌}
 use Rattle.distance.specs.Table.{Row}
 use Rattle.distance.proofs.fill_row.Given as goal
 
 abbrev pub invariant-loop-i : goal.invariant-loop-i
-invariant-loop-i l = (l.i ≤ 80) × Row l.distances l.locations l.from l.ends l.first l.i l.initial.legs l.legs
-
-abbrev pub decreases-loop-i : goal.decreases-loop-i
-decreases-loop-i l = 80 - l.i
+invariant-loop-i l = Row l.distances l.locations l.from l.ends l.first l.i l.initial.legs l.legs

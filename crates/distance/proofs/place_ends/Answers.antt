@@ -7,7 +7,7 @@ use Rattle.distance.proofs.Table.{filled_more}
 use Rattle.distance.proofs.place_ends.Goals as goal
 
 pub loop-i-init : goal.loop-i-init
-loop-i-init c = (omega arith, c.requires.2, λ ds p k h. absurd (omega arith))
+loop-i-init c = (c.requires.2, λ ds p k h. absurd (omega arith))
 
 pub end_of-requires : goal.end_of-requires
 end_of-requires c = (c.requires.0, c.requires.1)
@@ -16,12 +16,11 @@ pub loop-i-preserved : goal.loop-i-preserved
 loop-i-preserved c =
     let a = c.args in
     let v = c.loop-i.invariant in (
-      omega arith,
-      length-set c.loop-i.ends c.loop-i.i c.end_of.result ∙ v.1,
+      length-set c.loop-i.ends c.loop-i.i c.end_of.result ∙ v.0,
       λ ds p.
           filled_more (end_at (job_of a.vehicles.now a.stops.now a.locations ds p)) c.loop-i.ends c.loop-i.i c.end_of.result
-          (omega arith) (v.2 ds p) (c.end_of.ensures ds p),
+          (omega arith) (v.1 ds p) (c.end_of.ensures ds p),
     )
 
 pub returns : goal.returns
-returns c ds p k h = c.loop-i.invariant.2 ds p k (omega arith)
+returns c ds p k h = c.loop-i.invariant.1 ds p k (omega arith)

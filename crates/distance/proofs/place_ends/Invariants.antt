@@ -1,5 +1,5 @@
 -- The invariant: the places passed have their ends.
-use Prim.Native.Nat.{ℕ, ◌-◌, ◌≤◌}
+use Prim.Native.Nat.{ℕ}
 use mathlib.Core.Path.{◌≡◌}
 use mathlib.Core.List.{List}
 use lib.ListN.{length}
@@ -10,7 +10,4 @@ use Rattle.distance.proofs.place_ends.Given as goal
 
 abbrev pub invariant-loop-i : goal.invariant-loop-i
 invariant-loop-i l =
-    (l.i ≤ 80) × (length l.ends ≡ 80) × ((ds : List ℕ) (p : Prices) → EndsOf (job_of l.vehicles l.stops l.locations ds p) l.i l.ends)
-
-abbrev pub decreases-loop-i : goal.decreases-loop-i
-decreases-loop-i l = 80 - l.i
+    (length l.ends ≡ 80) × ((ds : List ℕ) (p : Prices) → EndsOf (job_of l.vehicles l.stops l.locations ds p) l.i l.ends)
