@@ -17,7 +17,7 @@ use Rattle.model.proofs.Locate.{vehicle-lt, vehicle-position}
 use Rattle.model.proofs.PlanForm.{lent_length, lent-encode, decode-encode}
 use Rattle.model.proofs.Placings.{cancelled-at, cancelled-none}
 use Rattle.solution.specs.declared.Place.{Place}
-use Rattle.solution.specs.declared.Found.TheVariants.{At, Nowhere}
+use Rattle.std.proofs.Common.{Some, None}
 use Rattle.solution.specs.Places.{place_of}
 use Rattle.joining.specs.Places.{leaving_out}
 
@@ -46,17 +46,17 @@ module _ (s : ℕ) (P : Plan) where
         left = change-same k (leaving_out i) (without s) P [] (sym (without-split s (route_of P k))) ∙ sym (cancelled-at s P o);
       }
 
-  pub found : Once (concat P) → (x : Place) → At x ≡ place_of s P → Leaves s P x.vehicle x.position
+  pub found : Once (concat P) → (x : Place) → Some x ≡ place_of s P → Leaves s P x.vehicle x.position
   found o x e = go (is_placed s P) refl e
     where
-      go : (b : Bool) → is_placed s P ≡ b → At x ≡ cond b (At there) Nowhere → Leaves s P x.vehicle x.position
+      go : (b : Bool) → is_placed s P ≡ b → Some x ≡ cond b (Some there) None → Leaves s P x.vehicle x.position
       go true on f = let same : x ≡ there = cc in rw same (leaves o on)
       go false off f = let z : ◌≡◌ {A = ℕ} 0 1 = cc in absurd (omega arith)
 
-  pub missing : Nowhere ≡ place_of s P → cancelled s P ≡ P
+  pub missing : None ≡ place_of s P → cancelled s P ≡ P
   missing e = go (is_placed s P) refl e
     where
-      go : (b : Bool) → is_placed s P ≡ b → Nowhere ≡ cond b (At there) Nowhere → cancelled s P ≡ P
+      go : (b : Bool) → is_placed s P ≡ b → None ≡ cond b (Some there) None → cancelled s P ≡ P
       go true on f = let z : ◌≡◌ {A = ℕ} 0 1 = cc in absurd (omega arith)
       go false off f = cancelled-none s P (absent-count s (concat P) off)
 
@@ -65,7 +65,7 @@ module _ (n s : ℕ) (P : Plan) (ys : List ℕ) where
   pub taken : (k i : ℕ) → Leaves s P k i → ys ≡ encode n (change k (leaving_out i) P) → ys ≡ encode n (cancelled s P)
   taken k i l e = rw l.left at e
 
-  pub stays : Nowhere ≡ place_of s P → ys ≡ encode n P → ys ≡ encode n (cancelled s P)
+  pub stays : None ≡ place_of s P → ys ≡ encode n P → ys ≡ encode n (cancelled s P)
   stays m e = rw (missing s P m) e
 
 -- every stop that is left was in the plan before

@@ -130,8 +130,8 @@ pub fn replace_two(
 fn shift_in(part: &mut [u32], x: u32)
     ensures { part.new ≡ take (length part.old) (x ∷ part.old) }
 {
-    if let Some(last) = part.len().checked_sub(1) {
-        part[last] = x;
+    if let Some(last) = part.last_mut() {
+        *last = x;
         part.rotate_right(1);
     }
 }

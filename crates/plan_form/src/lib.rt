@@ -9,14 +9,7 @@ ghost use Rattle.model.specs.Plan.{unused, is_plan, Sizes};
 fn all_unused(part: &[u32]) -> bool
     ensures { result ≡ same part.now (replicate (length part.now) unused) }
 {
-    let mut i = 0;
-    while i < part.len() {
-        if part[i] != 4294967295 {
-            return false;
-        }
-        i += 1;
-    }
-    true
+    part.iter().all(|stop| *stop == 4294967295)
 }
 
 // Whether every stop is below n, and none stands twice.
@@ -25,18 +18,12 @@ pub fn stops_once(part: &[u32], n: usize) -> bool
     ensures { result ≡ (all_below n part.now && all_once part.now) }
 {
     let mut seen: u64 = 0;
-    let mut i = 0;
-    while i < part.len() {
-        let stop = part[i];
-        let x = stop as usize;
-        if n <= x {
+    for stop in part {
+        let x = *stop as usize;
+        if n <= x || stop_set::contains(seen, *stop) {
             return false;
         }
-        if stop_set::contains(seen, stop) {
-            return false;
-        }
-        seen = stop_set::with(seen, stop);
-        i += 1;
+        seen = stop_set::with(seen, *stop);
     }
     true
 }
@@ -52,9 +39,5 @@ pub fn is_plan(plan: &[u32], v: usize, n: usize) -> bool
         return false;
     }
     let mid = v + used;
-    if stops_once(&plan[v..mid], n) {
-        all_unused(&plan[mid..])
-    } else {
-        false
-    }
+    stops_once(&plan[v..mid], n) && all_unused(&plan[mid..])
 }
