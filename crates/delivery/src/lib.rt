@@ -35,13 +35,11 @@ pub fn driving_cost(legs: &[u32], v: usize, n: usize, prices: Prices, plan: &[u3
 {
     let mut sum = 0.0;
     let mut at = v;
-    let mut k = 0;
-    while k < v {
+    for k in 0..v {
         let end = at + plan[k] as usize;
         let length = distance::route_length(legs, k, &plan[at..end]);
-        sum = sum + price(length, prices);
+        sum += price(length, prices);
         at = end;
-        k += 1;
     }
     sum
 }

@@ -3,15 +3,25 @@ use Prim.Native.Nat.{ℕ, ◌+◌, ◌-◌, ◌<◌, ◌≤◌}
 use native.Mathlib.Omega.{arith}
 use mathlib.Core.Path.{◌≡◌, refl, ◌∙◌}
 use mathlib.Core.Bool.{Bool, true, false, ◌&&◌}
-use mathlib.Core.List.{List}
+use mathlib.Core.List.{List, [], ◌∷◌}
+use lib.Dec.{eqb}
+use Rattle.std.specs.List.{list_all}
 use lib.ListN.{length, take, drop, replicate, length-drop}
 use lib.Seq.{drop-drop}
 use borrow.Author.Tests.{le-leb, lt-leb}
 use Rattle.model.specs.Lists.{sum, same, all_below, all_once, part}
 use Rattle.model.specs.Plan.{unused, used_part, unused_part, is_plan}
 use Rattle.model.proofs.Lists.{part_end}
-use Rattle.solution.proofs.Walks.{all}
 use Rattle.solution.proofs.Used.{used-part}
+
+-- every place holds u
+abbrev pub all : ℕ → List ℕ → Bool
+all u xs = same xs (replicate (length xs) u)
+
+-- so each place passes the test
+pub all-pass : (u : ℕ) (xs : List ℕ) → list_all (λ x. eqb x u) xs ≡ all u xs
+all-pass u [] = refl
+all-pass u (x ∷ xs) = rw (all-pass u xs)
 
 module _ (v n : ℕ) (xs : List ℕ) where
   -- too many stops

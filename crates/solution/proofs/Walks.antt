@@ -23,22 +23,6 @@ from-here xs i h = rw add-one (drop-cons xs i 0 h)
 pub from_end : (xs : List ℕ) (i : ℕ) → i ≡ length xs → drop i xs ≡ []
 from_end xs i e = rw e (drop-length xs)
 
--- ---- every place holds u
-
-abbrev pub all : ℕ → List ℕ → Bool
-all u xs = same xs (replicate (length xs) u)
-
-module _ (u : ℕ) (xs : List ℕ) (i : ℕ) where
-  pub all_end : i ≡ length xs → all u (drop i xs) ≡ true
-  all_end e = rw (from_end xs i e)
-
-  module _ (h : i < length xs) where
-    pub all_more : get_or xs i 0 ≡ u → all u (drop i xs) ≡ all u (drop (i + 1) xs)
-    all_more e = rw (from-here xs i h, eq-eqb (get_or xs i 0) u e)
-
-    pub all-not : (get_or xs i 0 ≡ u → ⊥) → all u (drop i xs) ≡ false
-    all-not e = rw (from-here xs i h, ne_eqb (get_or xs i 0) u e)
-
 -- ---- the lower of two lists
 
 -- of two lists of one length the lower is the one that the library's order says

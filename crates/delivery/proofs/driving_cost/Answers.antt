@@ -28,11 +28,11 @@ here : (c : In-loop-k)
     → route_of (decode c.args.v c.args.plan.now) c.loop-k.k
     ≡ part c.loop-k.at (c.loop-k.at + get_or c.args.plan.now c.loop-k.k 0) c.args.plan.now
 here c =
-    route-part c.args.v c.args.plan.now (omega (arith, c.requires.plan.long)) c.loop-k.k c.loop-k.at c.loop-k-test.true c.loop-k.invariant.1
+    route-part c.args.v c.args.plan.now (omega (arith, c.requires.plan.long)) c.loop-k.k c.loop-k.at c.loop-k-test.true c.loop-k.invariant.0
 
 pub loop-k-init : goal.loop-k-init
 unfolding table_driving
-loop-k-init c = (omega arith, omega arith, zero-whole)
+loop-k-init c = (omega arith, zero-whole)
 
 pub overflow_cast-end : goal.overflow_cast-end
 overflow_cast-end c = omega (arith, ends (goal.at.overflow_cast-end c).In-loop-k, c.requires.sizes.stops)
@@ -63,12 +63,11 @@ loop-k-preserved c =
     let length : c.route_length-length.result ≡ table_legs c.args.legs.now (depot l.k) (route_of (decode c.args.v c.args.plan.now) l.k) (depot l.k) =
     c.route_length-length.ensures.way ∙ ap (λ (r : Route). table_legs c.args.legs.now (depot l.k) r (depot l.k)) (sym (here (goal.at.loop-k-preserved c).In-loop-k))
     in (
-      omega arith,
-      omega (arith, l.invariant.1, sum_more c.args.plan.now l.k, ap (λ (j : ℕ). added (take j c.args.plan.now)) (add-one l.k)),
+      omega (arith, l.invariant.0, sum_more c.args.plan.now l.k, ap (λ (j : ℕ). added (take j c.args.plan.now)) (add-one l.k)),
       driving-step c.args.legs.now c.args.v c.args.n c.args.prices c.args.plan.now c.requires l.k l.sum c.price-sum.result c.loop-k-test.true
-          l.invariant.2 (c.price-sum.ensures ∙ ap (λ (d : ℕ). whole (price c.args.prices d)) length),
+          l.invariant.1 (c.price-sum.ensures ∙ ap (λ (d : ℕ). whole (price c.args.prices d)) length),
     )
 
 pub returns : goal.returns
 returns c =
-    drives-is c.args.legs.now c.args.v c.args.n c.args.prices c.args.plan.now c.requires c.loop-k.k c.loop-k.sum c.loop-k-test.false c.loop-k.invariant.2
+    drives-is c.args.legs.now c.args.v c.args.n c.args.prices c.args.plan.now c.requires c.loop-k.k c.loop-k.sum c.loop-k-test.false c.loop-k.invariant.1

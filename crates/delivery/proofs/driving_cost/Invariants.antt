@@ -10,7 +10,4 @@ use Rattle.delivery.proofs.driving_cost.Given as goal
 
 abbrev pub invariant-loop-k : goal.invariant-loop-k
 invariant-loop-k l =
-    (l.k ≤ l.v) × (l.at ≡ l.v + added (take l.k l.plan)) × (l.sum ≡ whole (table_driving l.legs l.prices 0 (take l.k (decode l.v l.plan))))
-
-abbrev pub decreases-loop-k : goal.decreases-loop-k
-decreases-loop-k l = l.v - l.k
+    (l.at ≡ l.v + added (take l.k l.plan)) × (l.sum ≡ whole (table_driving l.legs l.prices 0 (take l.k (decode l.v l.plan))))

@@ -16,4 +16,5 @@ returns-then-stops_once c =
 pub returns-else-stops_once : goal.returns-else-stops_once
 returns-else-stops_once c =
     let a = c.args in
-    sym (first-fails a.v a.n a.plan.now _ c.requires.plan_len (omega arith) (omega arith) c.stops_once.ensures c.if-stops_once.false)
+    c.if-stops_once.false
+    ∙ sym (first-fails a.v a.n a.plan.now _ c.requires.plan_len (omega arith) (omega arith) c.stops_once.ensures c.if-stops_once.false)
