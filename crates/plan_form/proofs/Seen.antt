@@ -1,5 +1,5 @@
 -- The test that no stop stands twice, by the set of those that were seen.
-use Prim.Native.Nat.{ℕ, ◌+◌, ◌<◌, ◌≤◌}
+use Prim.Native.Nat.{ℕ, ◌+◌, ◌<◌}
 use native.Mathlib.Nat.{zero-div}
 use mathlib.Core.Path.{◌≡◌, refl, sym}
 use mathlib.Core.Logic.{◌⊎◌, inl, inr, ◌≢◌}
@@ -7,12 +7,12 @@ use mathlib.Core.Bool.{Bool, true, false, ◌&&◌, not}
 use mathlib.Core.List.{List, [], ◌∷◌}
 use lib.Dec.{eqb}
 use lib.ListN.{length, get_or, drop}
-use borrow.Author.Tests.{lt-ltb, le-ltb}
+use borrow.Author.Tests.{lt-ltb}
 use Rattle.model.specs.Lists.{member, all_below, all_once}
 use Rattle.model.specs.StopSet.{contains, including}
 use Rattle.model.proofs.Lists.{tested}
 use Rattle.stop_set.proofs.Digits.{bit-including-same, bit-including-other}
-use Rattle.solution.proofs.Walks.{from-here, from_end}
+use Rattle.solution.proofs.Walks.{from-here}
 
 -- none of xs is in the set
 abbrev pub unseen : ℕ → List ℕ → Bool
@@ -53,23 +53,13 @@ seen_more x set (y ∷ xs) = go (tested x y) (seen_more x set xs)
         let b : contains y (including x set) ≡ contains y set = rw (bit-including-other y x set (λ q. e.0 (sym q))) in
         rw (b, e.1, ih) (regroup (not (contains y set)) (unseen set xs) (not (member x xs)))
 
-module _ (n set : ℕ) (xs : List ℕ) (i : ℕ) where
-  pub good-end : i ≡ length xs → good n set (drop i xs) ≡ true
-  good-end e = rw (from_end xs i e)
-
-  module _ (h : i < length xs) where
-    pub good-beyond : n ≤ get_or xs i 0 → good n set (drop i xs) ≡ false
-    good-beyond k = rw (from-here xs i h, le-ltb (get_or xs i 0) n k)
-
-    pub good-twice : contains (get_or xs i 0) set ≡ true → good n set (drop i xs) ≡ false
-    good-twice e = rw (from-here xs i h, e, and-false)
-
-    pub good_more : (set' : ℕ) → get_or xs i 0 < n → contains (get_or xs i 0) set ≡ false → set' ≡ including (get_or xs i 0) set
-        → good n set (drop i xs) ≡ good n set' (drop (i + 1) xs)
-    good_more set' k e e' =
-        rw (from-here xs i h, lt-ltb (get_or xs i 0) n k, e, e', seen_more (get_or xs i 0) set (drop (i + 1) xs))
-        (same_tests (all_below n (drop (i + 1) xs)) (unseen set (drop (i + 1) xs)) (not (member (get_or xs i 0) (drop (i + 1) xs))) (all_once (drop (i + 1) xs)))
-      where
-        same_tests : (a b c d : Bool) → (a && (b && (c && d))) ≡ (a && ((b && c) && d))
-        same_tests a true c d = refl
-        same_tests a false c d = refl
+module _ (n set : ℕ) (xs : List ℕ) (i : ℕ) (h : i < length xs) where
+  pub good_more : (set' : ℕ) → get_or xs i 0 < n → contains (get_or xs i 0) set ≡ false → set' ≡ including (get_or xs i 0) set
+      → good n set (drop i xs) ≡ good n set' (drop (i + 1) xs)
+  good_more set' k e e' =
+      rw (from-here xs i h, lt-ltb (get_or xs i 0) n k, e, e', seen_more (get_or xs i 0) set (drop (i + 1) xs))
+      (same_tests (all_below n (drop (i + 1) xs)) (unseen set (drop (i + 1) xs)) (not (member (get_or xs i 0) (drop (i + 1) xs))) (all_once (drop (i + 1) xs)))
+    where
+      same_tests : (a b c d : Bool) → (a && (b && (c && d))) ≡ (a && ((b && c) && d))
+      same_tests a true c d = refl
+      same_tests a false c d = refl
