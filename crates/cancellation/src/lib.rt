@@ -11,7 +11,6 @@ ghost use Rattle.model.specs.Live.{live_cost, cancelled};
 ghost use Rattle.cancellation.specs.Cancelling.{Cancelling};
 
 use model::Prices;
-use solution::Found;
 
 // Takes a stop out of a plan, where it is on a route.
 fn leave(plan: &mut [u32], v: usize, n: usize, stop: u32)
@@ -19,8 +18,8 @@ fn leave(plan: &mut [u32], v: usize, n: usize, stop: u32)
     ensures { plan.new ≡ encode n (cancelled stop (decode v plan.old)) }
 {
     match solution::find(plan, v, n, stop) {
-        Found::At(place) => joining::take_out(plan, v, n, place.vehicle, place.position),
-        Found::Nowhere => {}
+        Some(place) => joining::take_out(plan, v, n, place.vehicle, place.position),
+        None => {}
     }
 }
 

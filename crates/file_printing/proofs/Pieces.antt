@@ -20,8 +20,7 @@ use Rattle.model.proofs.Pieces.{for_each-append}
 use Rattle.model.proofs.PlanForm.{length_cut}
 use Rattle.model.proofs.Locate.{vehicle-le}
 use Rattle.solution.specs.declared.Place.{Place}
-use Rattle.solution.specs.declared.Found.{Found}
-use Rattle.solution.specs.declared.Found.TheVariants.{At, Nowhere}
+use Rattle.std.specs.Prelude.{Option, Some, None}
 use Rattle.solution.specs.Places.{place_of}
 use Rattle.file_columns.specs.Put.{written}
 use Rattle.file_printing.specs.Printing.{printed_vehicle, printed_stops, printed_totals, Prints}
@@ -39,16 +38,16 @@ dashed out at room =
 
 -- ---- the vehicle of a stop
 
-chosen : (b : Bool) (q p : Place) → cond b (At q) Nowhere ≡ At p → (b ≡ true) × (q ≡ p)
+chosen : (b : Bool) (q p : Place) → cond b (Some q) None ≡ Some p → (b ≡ true) × (q ≡ p)
 chosen true q p e = (refl, cc)
 chosen false q p e = let z : ◌≡◌ {A = ℕ} 0 1 = cc in absurd (omega arith)
 
-none-chosen : (b : Bool) (q : Place) → cond b (At q) Nowhere ≡ Nowhere → b ≡ false
+none-chosen : (b : Bool) (q : Place) → cond b (Some q) None ≡ None → b ≡ false
 none-chosen true q e = let z : ◌≡◌ {A = ℕ} 0 1 = cc in absurd (omega arith)
 none-chosen false q e = refl
 
-module _ (P : Plan) (s : ℕ) (f : Found) (found : f ≡ place_of s P) where
-  module _ (p : Place) (e : f ≡ At p) where
+module _ (P : Plan) (s : ℕ) (f : Option Place) (found : f ≡ place_of s P) where
+  module _ (p : Place) (e : f ≡ Some p) where
     here : (is_placed s P ≡ true) × (vehicle_of s P ≡ p.vehicle)
     here =
         let both = chosen (is_placed s P) _ p (sym found ∙ e) in
@@ -61,7 +60,7 @@ module _ (P : Plan) (s : ℕ) (f : Found) (found : f ≡ place_of s P) where
     pub vehicle-small : p.vehicle ≤ length P
     vehicle-small = rw (← here.1) (vehicle-le s P)
 
-  pub dash-printed : f ≡ Nowhere → justified 4 (dash ∷ []) ≡ printed_vehicle P s
+  pub dash-printed : f ≡ None → justified 4 (dash ∷ []) ≡ printed_vehicle P s
   unfolding printed_vehicle
   dash-printed e = rw (none-chosen (is_placed s P) _ (sym found ∙ e))
 

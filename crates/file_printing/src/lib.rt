@@ -9,7 +9,6 @@ ghost use Rattle.file_columns.specs.Put.{written};
 ghost use Rattle.file_printing.specs.Printing.{printed_vehicle, printed_stops, printed_totals, Priced, Printable, Prints};
 
 use model::Totals;
-use solution::Found;
 
 // A dash in 4 columns.
 fn put_dash(out: &mut [u8], at: usize)
@@ -28,11 +27,11 @@ fn put_vehicle(out: &mut [u8], at: usize, plan: &[u32], v: usize, n: usize, stop
     ensures { out.new ≡ written out.old at (printed_vehicle (decode v plan.now) stop) }
 {
     match solution::find(plan, v, n, stop) {
-        Found::At(place) => {
+        Some(place) => {
             let k = place.vehicle;
             file_columns::put_number(out, at, 4, k as u64);
         }
-        Found::Nowhere => {
+        None => {
             put_dash(out, at);
         }
     }

@@ -11,8 +11,7 @@ use Rattle.model.specs.Region.{region_from, region_to, region_of}
 use Rattle.model.proofs.Locate.{vehicle-lt, vehicle-none, vehicle-position}
 use Rattle.model.proofs.PlanForm.{lent_length, route-length, route-end}
 use Rattle.solution.specs.declared.Place.{Place}
-use Rattle.solution.specs.declared.Found.{Found}
-use Rattle.solution.specs.declared.Found.TheVariants.{At, Nowhere}
+use Rattle.std.specs.Prelude.{Option, Some, None}
 use Rattle.solution.specs.Places.{place_of}
 use Rattle.rebuild_regions.specs.Reading.{with_region}
 
@@ -26,21 +25,21 @@ pub record There (s : ℕ) (P : Plan) (p : Place) : Type 0 where
   pub vehicle : p.vehicle ≡ vehicle_of s P
   pub position : p.position ≡ position s (route_of P (vehicle_of s P))
 
-module _ (s : ℕ) (P : Plan) (f : Found) (e : f ≡ place_of s P) where
+module _ (s : ℕ) (P : Plan) (f : Option Place) (e : f ≡ place_of s P) where
   -- a stop is found only where it is placed
-  pub found-there : (p : Place) → f ≡ At p → There s P p
+  pub found-there : (p : Place) → f ≡ Some p → There s P p
   found-there p q = go (is_placed s P) refl e
     where
-      go : (t : Bool) → is_placed s P ≡ t → f ≡ cond t (At (there_of s P)) Nowhere → There s P p
+      go : (t : Bool) → is_placed s P ≡ t → f ≡ cond t (Some (there_of s P)) None → There s P p
       go true on h =
           let same : p ≡ there_of s P = cc in
           record { placed = on; vehicle = ap (λ (x : Place). x.vehicle) same; position = ap (λ (x : Place). x.position) same }
       go false off h = let z : ◌≡◌ {A = ℕ} 0 1 = cc in absurd (omega arith)
 
-  pub found_nowhere : f ≡ Nowhere → is_placed s P ≡ false
+  pub found_nowhere : f ≡ None → is_placed s P ≡ false
   found_nowhere q = go (is_placed s P) refl e
     where
-      go : (t : Bool) → is_placed s P ≡ t → f ≡ cond t (At (there_of s P)) Nowhere → is_placed s P ≡ false
+      go : (t : Bool) → is_placed s P ≡ t → f ≡ cond t (Some (there_of s P)) None → is_placed s P ≡ false
       go true on h = let z : ◌≡◌ {A = ℕ} 0 1 = cc in absurd (omega arith)
       go false off h = off
 

@@ -6,16 +6,14 @@ ghost use Rattle.model.specs.Plan.{decode, vehicle_of, is_placed, Lent, Sizes};
 ghost use Rattle.model.specs.Region.{keep_picks, region_from, region_to, region_of, regions};
 ghost use Rattle.rebuild_regions.specs.Reading.{read_regions, with_region};
 
-use solution::Found;
-
 // The vehicle that a stop is on, v where it is on none.
 fn vehicle_of(plan: &[u32], v: usize, n: usize, stop: u32) -> usize
     requires { Sizes v n × Lent v n plan.now }
     ensures { result ≡ vehicle_of stop (decode v plan.now) }
 {
     match solution::find(plan, v, n, stop) {
-        Found::At(place) => place.vehicle,
-        Found::Nowhere => v,
+        Some(place) => place.vehicle,
+        None => v,
     }
 }
 
@@ -75,7 +73,7 @@ fn region_of(plan: &[u32], v: usize, n: usize, pick: u32, size: usize, out: &mut
     requires i_bound { (i ≤ 2) × (3 * i + 3 ≤ length out.old) }
     ensures { out.new ≡ with_region out.old i (region_of (decode v plan.now) size pick) }
 {
-    let Found::At(place) = solution::find(plan, v, n, pick) else {
+    let Some(place) = solution::find(plan, v, n, pick) else {
         return;
     };
     let k = place.vehicle;

@@ -24,7 +24,7 @@ use Rattle.model.proofs.Cost.{missed_cost-is}
 use Rattle.model.proofs.Live.{added-at, cancelled-routes}
 use Rattle.model.proofs.PlanForm.{lent_length, lent-encode, decode-encode}
 use Rattle.model.proofs.Vans.{unplaced-length, moved_length, moved_other, moved-one, moved-once, moved-below, apart-alike}
-use Rattle.solution.specs.declared.Found.TheVariants.{Nowhere}
+use Rattle.std.specs.Prelude.{None}
 use Rattle.solution.specs.Places.{place_of}
 use Rattle.joining.specs.Places.{leaving_out}
 use Rattle.joining.proofs.Leaving.{Leaves, missing, left-plan, left-lent}
@@ -162,7 +162,7 @@ module _ {t : List ℕ} {v n : ℕ} {p : Prices} {xs : List ℕ} {s k i : ℕ} (
         C ∙ sym (apart J F vans w u (omega (arith, own_is J F vans new, own_is J F vans old, ap (missed_cost p) same)))
 
   -- the stop was unplaced
-  module _ (N : Nowhere ≡ place_of s old) where
+  module _ (N : None ≡ place_of s old) where
     stayed : cancelled s old ≡ old
     stayed = missing s old N
 

@@ -11,7 +11,6 @@ ghost use Rattle.delivery.specs.Costs.{table_price, Ready};
 ghost use Rattle.relocation.specs.Moving.{pair_price, Movable, Changes};
 
 use model::Prices;
-use solution::Found;
 
 // What the route of vehicle k costs.
 fn route_cost(legs: &[u32], v: usize, n: usize, prices: Prices, plan: &[u32], k: usize) -> u64
@@ -67,14 +66,14 @@ pub fn move_stop(
     ensures changes { Changes legs.now v n prices (decode v plan.old) stop van place result }
 {
     match solution::find(plan, v, n, stop) {
-        Found::At(found) => {
+        Some(found) => {
             let old = both_cost(legs, v, n, prices, plan, found.vehicle, van);
             joining::take_out(plan, v, n, found.vehicle, found.position);
             joining::put_in(plan, v, n, van, place, stop);
             let new = both_cost(legs, v, n, prices, plan, found.vehicle, van);
             change(new, old)
         }
-        Found::Nowhere => {
+        None => {
             let missed = prices.missed;
             let old = route_cost(legs, v, n, prices, plan, van);
             joining::put_in(plan, v, n, van, place, stop);

@@ -19,7 +19,7 @@ use Rattle.model.proofs.PlanForm.{lent_length, decode-encode}
 use Rattle.model.proofs.Moves.{Moved}
 use Rattle.solution.specs.Places.{place_of}
 use Rattle.solution.specs.declared.Place.{Place}
-use Rattle.solution.specs.declared.Found.TheVariants.{At, Nowhere}
+use Rattle.std.specs.Prelude.{Some, None}
 use Rattle.delivery.specs.Costs.{Ready}
 use Rattle.two_opt_inter.specs.Move.{OnTwoRoutes}
 use Rattle.two_opt_intra.specs.Reordered.{OneRoute}
@@ -36,17 +36,17 @@ module _ (s : ℕ) (P : Plan) where
   abbrev there : Place
   there = record { vehicle = vehicle_of s P; position = position s (route_of P (vehicle_of s P)) }
 
-  pub found : (x : Place) → At x ≡ place_of s P → On P s x.vehicle
+  pub found : (x : Place) → Some x ≡ place_of s P → On P s x.vehicle
   found x e = go (is_placed s P) refl e
     where
-      go : (b : Bool) → is_placed s P ≡ b → At x ≡ cond b (At there) Nowhere → On P s x.vehicle
+      go : (b : Bool) → is_placed s P ≡ b → Some x ≡ cond b (Some there) None → On P s x.vehicle
       go true on f = let same : x ≡ there = cc in record { placed = on; vehicle = ap (λ (y : Place). y.vehicle) same }
       go false off f = let z : ◌≡◌ {A = ℕ} 0 1 = cc in absurd (omega arith)
 
-  pub missing : Nowhere ≡ place_of s P → is_placed s P ≡ false
+  pub missing : None ≡ place_of s P → is_placed s P ≡ false
   missing e = go (is_placed s P) refl e
     where
-      go : (b : Bool) → is_placed s P ≡ b → Nowhere ≡ cond b (At there) Nowhere → is_placed s P ≡ false
+      go : (b : Bool) → is_placed s P ≡ b → None ≡ cond b (Some there) None → is_placed s P ≡ false
       go true on f = let z : ◌≡◌ {A = ℕ} 0 1 = cc in absurd (omega arith)
       go false off f = off
 

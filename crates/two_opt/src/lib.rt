@@ -12,7 +12,6 @@ ghost use Rattle.delivery.specs.Costs.{Ready};
 ghost use Rattle.two_opt.specs.Pairs.{pairs_of};
 
 use model::Prices;
-use solution::Found;
 
 // The pair s, t: no change where one of them is unplaced, else the move on their route or on their two routes, that of s first.
 pub fn pair(legs: &[u32], v: usize, n: usize, prices: Prices, plan: &mut [u32], s: u32, t: u32)
@@ -21,10 +20,10 @@ pub fn pair(legs: &[u32], v: usize, n: usize, prices: Prices, plan: &mut [u32], 
     ensures plan_after { (J : Job) → Fits J legs.now v n prices → plan.new ≡ encode n (two_opt J (decode v plan.old) s t) }
     ensures lent { Lent v n plan.new }
 {
-    let Found::At(x) = solution::find(plan, v, n, s) else {
+    let Some(x) = solution::find(plan, v, n, s) else {
         return;
     };
-    let Found::At(y) = solution::find(plan, v, n, t) else {
+    let Some(y) = solution::find(plan, v, n, t) else {
         return;
     };
     let a = x.vehicle;

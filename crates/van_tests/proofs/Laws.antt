@@ -17,7 +17,7 @@ use Rattle.model.proofs.Order.{unless}
 use Rattle.model.proofs.Locate.{vehicle-lt}
 use Rattle.model.proofs.Vans.{van-lt, cancelled-route}
 use Rattle.solution.specs.declared.Place.{Place}
-use Rattle.solution.specs.declared.Found.TheVariants.{At, Nowhere}
+use Rattle.std.specs.Prelude.{Some, None}
 use Rattle.solution.specs.Places.{place_of}
 
 -- ---- the set
@@ -48,32 +48,32 @@ module _ (s k i : ℕ) (P : Plan) (r : List ℕ) (e : r ≡ route_of P k) (p : �
 -- ---- the van of the stop
 
 module _ (vans s : ℕ) (P : Plan) where
-  on-van : (x : Place) → At x ≡ place_of s P → (is_placed s P ≡ true) × (x.vehicle ≡ vehicle_of s P)
+  on-van : (x : Place) → Some x ≡ place_of s P → (is_placed s P ≡ true) × (x.vehicle ≡ vehicle_of s P)
   on-van x e = go (is_placed s P) refl e
     where
       go : (b : Bool) → is_placed s P ≡ b
-          → At x ≡ cond b (At (record { vehicle = vehicle_of s P; position = position s (route_of P (vehicle_of s P)) })) Nowhere
+          → Some x ≡ cond b (Some (record { vehicle = vehicle_of s P; position = position s (route_of P (vehicle_of s P)) })) None
           → (is_placed s P ≡ true) × (x.vehicle ≡ vehicle_of s P)
       go true on f = (on, cc)
       go false off f = let z : ◌≡◌ {A = ℕ} 0 1 = cc in absurd (omega arith)
 
-  off-vans : Nowhere ≡ place_of s P → is_placed s P ≡ false
+  off-vans : None ≡ place_of s P → is_placed s P ≡ false
   off-vans e = go (is_placed s P) refl e
     where
       go : (b : Bool) → is_placed s P ≡ b
-          → Nowhere ≡ cond b (At (record { vehicle = vehicle_of s P; position = position s (route_of P (vehicle_of s P)) })) Nowhere
+          → None ≡ cond b (Some (record { vehicle = vehicle_of s P; position = position s (route_of P (vehicle_of s P)) })) None
           → is_placed s P ≡ false
       go true on f = let z : ◌≡◌ {A = ℕ} 0 1 = cc in absurd (omega arith)
       go false off f = off
 
-  pub van-of : (x : Place) → At x ≡ place_of s P → x.vehicle < length P
+  pub van-of : (x : Place) → Some x ≡ place_of s P → x.vehicle < length P
   van-of x e = let o = on-van x e in rw o.1 (vehicle-lt s P o.0)
 
-  pub others : (x : Place) → At x ≡ place_of s P → (t : Bool) → t ≡ contains x.vehicle vans → not t ≡ on_others_van vans s P
+  pub others : (x : Place) → Some x ≡ place_of s P → (t : Bool) → t ≡ contains x.vehicle vans → not t ≡ on_others_van vans s P
   unfolding on_others_van
   others x e t h = let o = on-van x e in rw (o.0, ← o.1, h)
 
-  pub nobodys : Nowhere ≡ place_of s P → false ≡ on_others_van vans s P
+  pub nobodys : None ≡ place_of s P → false ≡ on_others_van vans s P
   unfolding on_others_van
   nobodys e = rw (off-vans e)
 

@@ -6,8 +6,6 @@ ghost use Rattle.model.specs.Plan.{decode, Lent, Sizes};
 ghost use Rattle.model.specs.StopSet.{contains};
 ghost use Rattle.model.specs.Vans.{move_to, bad_vans, on_others_van, beyond_end, bad_move};
 
-use solution::Found;
-
 // Whether a set of vans has van k.
 fn holds(vans: u32, k: usize) -> bool
     requires { k < 64 }
@@ -42,8 +40,8 @@ fn on_others_van(plan: &[u32], v: usize, n: usize, vans: u32, stop: u32) -> bool
     ensures { result ≡ on_others_van vans stop (decode v plan.now) }
 {
     match solution::find(plan, v, n, stop) {
-        Found::At(found) => !holds(vans, found.vehicle),
-        Found::Nowhere => false,
+        Some(found) => !holds(vans, found.vehicle),
+        None => false,
     }
 }
 

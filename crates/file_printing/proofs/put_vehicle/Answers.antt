@@ -11,16 +11,16 @@ put_number-requires c =
     record {
       some = omega arith;
       few = omega arith;
-      fits = omega (arith, routes-few c.args.v c.args.plan.now, vehicle-small (decode c.args.v c.args.plan.now) c.args.stop found.result found.ensures _ c.in-At.is, c.requires.sizes.vehicles);
+      fits = omega (arith, routes-few c.args.v c.args.plan.now, vehicle-small (decode c.args.v c.args.plan.now) c.args.stop found.result found.ensures _ c.in-Some.is, c.requires.sizes.vehicles);
       room = c.requires.room;
     }
 
-pub returns-in-At : goal.returns-in-At
-returns-in-At c =
+pub returns-in-Some : goal.returns-in-Some
+returns-in-Some c =
     let found = c.find in
-    c.put_number.ensures ∙ ap (written _ _) (vehicle-printed _ _ found.result found.ensures _ c.in-At.is)
+    c.put_number.ensures ∙ ap (written _ _) (vehicle-printed _ _ found.result found.ensures _ c.in-Some.is)
 
-pub returns-in-Nowhere : goal.returns-in-Nowhere
-returns-in-Nowhere c =
+pub returns-in-None : goal.returns-in-None
+returns-in-None c =
     let found = c.find in
-    c.put_dash.ensures ∙ ap (written _ _) (dash-printed _ _ found.result found.ensures c.in-Nowhere.is)
+    c.put_dash.ensures ∙ ap (written _ _) (dash-printed _ _ found.result found.ensures c.in-None.is)

@@ -2,20 +2,20 @@ use mathlib.Core.Path.{sym, ◌∙◌}
 use Rattle.model.specs.Plan.{decode}
 use Rattle.two_opt.proofs.Placed.{On, found, missing, first-missing, second-missing, on_one, on-two, one-route, two-routes, unchanged, the-pair}
 use Rattle.two_opt.proofs.pair.Goals as goal
-use Rattle.two_opt.proofs.pair.Goals.{In-At, In-At-find}
+use Rattle.two_opt.proofs.pair.Goals.{In-Some, In-Some-find}
 
 -- the first stop is on a route
-first : (c : In-At) → let a = c.args in
-    On (decode a.v a.plan.now) a.s c.in-At.x.vehicle
+first : (c : In-Some) → let a = c.args in
+    On (decode a.v a.plan.now) a.s c.in-Some.x.vehicle
 first c =
     let a = c.args in
-    found a.s (decode a.v a.plan.now) _ (sym c.in-At.is ∙ c.find.ensures)
+    found a.s (decode a.v a.plan.now) _ (sym c.in-Some.is ∙ c.find.ensures)
 
-second : (c : In-At-find) → let a = c.args in
-    On (decode a.v a.plan.now) a.t c.in-At-find.y.vehicle
+second : (c : In-Some-find) → let a = c.args in
+    On (decode a.v a.plan.now) a.t c.in-Some-find.y.vehicle
 second c =
     let a = c.args in
-    found a.t (decode a.v a.plan.now) _ (sym c.in-At-find.is ∙ c.find-2.ensures)
+    found a.t (decode a.v a.plan.now) _ (sym c.in-Some-find.is ∙ c.find-2.ensures)
 
 pub returns-in_default : goal.returns-in_default
 returns-in_default c =
@@ -33,20 +33,20 @@ returns-in_default-find c =
 
 pub intra-requires : goal.intra-requires
 intra-requires c =
-    record { ready = c.requires.ready; one_route = one-route c.requires.ready (first (goal.at.intra-requires c).In-At) (second (goal.at.intra-requires c).In-At-find) c.if-a-b.true c.requires.fact }
+    record { ready = c.requires.ready; one_route = one-route c.requires.ready (first (goal.at.intra-requires c).In-Some) (second (goal.at.intra-requires c).In-Some-find) c.if-a-b.true c.requires.fact }
 
 pub inter-requires : goal.inter-requires
 inter-requires c =
-    record { ready = c.requires.ready; on_two_routes = two-routes c.requires.ready (first (goal.at.inter-requires c).In-At) (second (goal.at.inter-requires c).In-At-find) c.if-a-b.false }
+    record { ready = c.requires.ready; on_two_routes = two-routes c.requires.ready (first (goal.at.inter-requires c).In-Some) (second (goal.at.inter-requires c).In-Some-find) c.if-a-b.false }
 
 pub returns-then-a-b : goal.returns-then-a-b
 returns-then-a-b c =
     let a = c.args in
     let parts = the-pair a.legs.now a.v a.n a.prices a.plan.now a.s a.t _ _
-    (λ J. on_one J (decode a.v a.plan.now) a.s a.t (first (goal.at.returns-then-a-b c).In-At) (second (goal.at.returns-then-a-b c).In-At-find) c.if-a-b.true) (c.intra.ensures.plan_after, c.intra.ensures.lent) in record { plan_after = parts.0; lent = parts.1 }
+    (λ J. on_one J (decode a.v a.plan.now) a.s a.t (first (goal.at.returns-then-a-b c).In-Some) (second (goal.at.returns-then-a-b c).In-Some-find) c.if-a-b.true) (c.intra.ensures.plan_after, c.intra.ensures.lent) in record { plan_after = parts.0; lent = parts.1 }
 
 pub returns-else-a-b : goal.returns-else-a-b
 returns-else-a-b c =
     let a = c.args in
     let parts = the-pair a.legs.now a.v a.n a.prices a.plan.now a.s a.t _ _
-    (λ J. on-two J (decode a.v a.plan.now) a.s a.t (first (goal.at.returns-else-a-b c).In-At) (second (goal.at.returns-else-a-b c).In-At-find) c.if-a-b.false) (c.inter.ensures.plan_after, c.inter.ensures.lent) in record { plan_after = parts.0; lent = parts.1 }
+    (λ J. on-two J (decode a.v a.plan.now) a.s a.t (first (goal.at.returns-else-a-b c).In-Some) (second (goal.at.returns-else-a-b c).In-Some-find) c.if-a-b.false) (c.inter.ensures.plan_after, c.inter.ensures.lent) in record { plan_after = parts.0; lent = parts.1 }

@@ -8,15 +8,15 @@ use Rattle.van_tests.proofs.on_others_van.Goals as goal
 pub holds-requires : goal.holds-requires
 holds-requires c =
     let a = c.args in
-    let k = van-of a.vans a.stop (decode a.v a.plan.now) _ (sym c.in-At.is ∙ c.find.ensures) in
+    let k = van-of a.vans a.stop (decode a.v a.plan.now) _ (sym c.in-Some.is ∙ c.find.ensures) in
     omega (arith, k, lent_length a.v a.n a.plan.now c.requires.1, c.requires.0.vehicles)
 
-pub returns-in-At : goal.returns-in-At
-returns-in-At c =
+pub returns-in-Some : goal.returns-in-Some
+returns-in-Some c =
     let a = c.args in
-    others a.vans a.stop (decode a.v a.plan.now) _ (sym c.in-At.is ∙ c.find.ensures) _ c.holds.ensures
+    others a.vans a.stop (decode a.v a.plan.now) _ (sym c.in-Some.is ∙ c.find.ensures) _ c.holds.ensures
 
-pub returns-in-Nowhere : goal.returns-in-Nowhere
-returns-in-Nowhere c =
+pub returns-in-None : goal.returns-in-None
+returns-in-None c =
     let a = c.args in
-    nobodys a.vans a.stop (decode a.v a.plan.now) (sym c.in-Nowhere.is ∙ c.find.ensures)
+    nobodys a.vans a.stop (decode a.v a.plan.now) (sym c.in-None.is ∙ c.find.ensures)
