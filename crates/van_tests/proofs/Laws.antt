@@ -48,11 +48,14 @@ module _ (s k i : ℕ) (P : Plan) (r : List ℕ) (e : r ≡ route_of P k) (p : �
 -- ---- the van of the stop
 
 module _ (vans s : ℕ) (P : Plan) where
+  abbrev there : Place
+  there = record { vehicle = vehicle_of s P; position = position s (route_of P (vehicle_of s P)) }
+
   on-van : (x : Place) → Some x ≡ place_of s P → (is_placed s P ≡ true) × (x.vehicle ≡ vehicle_of s P)
   on-van x e = go (is_placed s P) refl e
     where
       go : (b : Bool) → is_placed s P ≡ b
-          → Some x ≡ cond b (Some (record { vehicle = vehicle_of s P; position = position s (route_of P (vehicle_of s P)) })) None
+          → Some x ≡ cond b (Some there) None
           → (is_placed s P ≡ true) × (x.vehicle ≡ vehicle_of s P)
       go true on f = (on, cc)
       go false off f = let z : ◌≡◌ {A = ℕ} 0 1 = cc in absurd (omega arith)
@@ -61,7 +64,7 @@ module _ (vans s : ℕ) (P : Plan) where
   off-vans e = go (is_placed s P) refl e
     where
       go : (b : Bool) → is_placed s P ≡ b
-          → None ≡ cond b (Some (record { vehicle = vehicle_of s P; position = position s (route_of P (vehicle_of s P)) })) None
+          → None ≡ cond b (Some there) None
           → is_placed s P ≡ false
       go true on f = let z : ◌≡◌ {A = ℕ} 0 1 = cc in absurd (omega arith)
       go false off f = off
