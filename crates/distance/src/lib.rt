@@ -33,48 +33,30 @@ fn is_place(v: usize, n: usize, place: usize) -> bool
     place < n || (64 <= place && place < 64 + v)
 }
 
-// The location at which a leg from a place begins.
-fn place_from(vehicles: &[u32], stops: &[u32], place: usize) -> u32
-    requires { (length stops.now ≤ 64) × (is_place (length vehicles.now / 2) (length stops.now) place ≡ true) }
-    ensures { (J : Job) → J.vehicles ≡ vehicles.now → J.stops ≡ stops.now → result ≡ leaves J place }
+// The location of a place: of a stop its own, of a vehicle its start for end 0, where legs from there begin, and its end for end 1, where
+// legs to there end.
+fn location_at(vehicles: &[u32], stops: &[u32], place: usize, end: usize) -> u32
+    requires { (length stops.now ≤ 64) × (is_place (length vehicles.now / 2) (length stops.now) place ≡ true) × (end ≤ 1) }
+    ensures from { (J : Job) → J.vehicles ≡ vehicles.now → J.stops ≡ stops.now → end ≡ 0 → result ≡ leaves J place }
+    ensures to { (J : Job) → J.vehicles ≡ vehicles.now → J.stops ≡ stops.now → end ≡ 1 → result ≡ reaches J place }
 {
     if place < 64 {
         return stops[place];
     }
-    vehicles[2 * (place - 64)]
+    vehicles[2 * (place - 64) + end]
 }
 
-// The location at which a leg to a place ends.
-fn place_to(vehicles: &[u32], stops: &[u32], place: usize) -> u32
-    requires { (length stops.now ≤ 64) × (is_place (length vehicles.now / 2) (length stops.now) place ≡ true) }
-    ensures { (J : Job) → J.vehicles ≡ vehicles.now → J.stops ≡ stops.now → result ≡ reaches J place }
-{
-    if place < 64 {
-        return stops[place];
-    }
-    vehicles[2 * (place - 64) + 1]
-}
-
-// The location at which a leg from a place begins, `locations` for a place that is not there.
-fn start_of(vehicles: &[u32], stops: &[u32], locations: u32, place: usize) -> u32
-    requires { (length vehicles.now ≤ 32) × (length stops.now ≤ 64) }
-    ensures { (ds : List ℕ) (p : Prices) → result ≡ start_at (job_of vehicles.now stops.now locations ds p) place }
+// The same, `locations` for a place that is not there. That number is no location, so that the one test that `metres` makes of it keeps such
+// places and all entries outside the table apart: an Option would be opened there, and its number tested as well.
+fn location_of(vehicles: &[u32], stops: &[u32], locations: u32, place: usize, end: usize) -> u32
+    requires { (length vehicles.now ≤ 32) × (length stops.now ≤ 64) × (end ≤ 1) }
+    ensures from { (ds : List ℕ) (p : Prices) → end ≡ 0 → result ≡ start_at (job_of vehicles.now stops.now locations ds p) place }
+    ensures to { (ds : List ℕ) (p : Prices) → end ≡ 1 → result ≡ end_at (job_of vehicles.now stops.now locations ds p) place }
 {
     if !is_place(vehicles.len() / 2, stops.len(), place) {
         return locations;
     }
-    place_from(vehicles, stops, place)
-}
-
-// The location at which a leg to a place ends, `locations` for a place that is not there.
-fn end_of(vehicles: &[u32], stops: &[u32], locations: u32, place: usize) -> u32
-    requires { (length vehicles.now ≤ 32) × (length stops.now ≤ 64) }
-    ensures { (ds : List ℕ) (p : Prices) → result ≡ end_at (job_of vehicles.now stops.now locations ds p) place }
-{
-    if !is_place(vehicles.len() / 2, stops.len(), place) {
-        return locations;
-    }
-    place_to(vehicles, stops, place)
+    location_at(vehicles, stops, place, end)
 }
 
 // The metres from one location to another, 0 where one of them is none.
@@ -97,7 +79,7 @@ fn place_ends(vehicles: &[u32], stops: &[u32], locations: u32, ends: &mut [u32; 
     ensures { (ds : List ℕ) (p : Prices) → EndsOf (job_of vehicles.now stops.now locations ds p) 80 ends.new }
 {
     for i in 0..80 {
-        ends[i] = end_of(vehicles, stops, locations, i);
+        ends[i] = location_of(vehicles, stops, locations, i, 1);
     }
 }
 
@@ -132,7 +114,7 @@ pub fn leg_table(
     let mut ends = [0u32; 80];
     place_ends(vehicles, stops, locations, &mut ends);
     for i in 0..80 {
-        let from = start_of(vehicles, stops, locations, i);
+        let from = location_of(vehicles, stops, locations, i, 0);
         fill_row(locations, distances, from, &ends, legs, 80 * i);
     }
 }

@@ -6,14 +6,14 @@ use mathlib.Core.Path.{◌≡◌, refl, sym, ◌∙◌}
 use mathlib.Core.Bool.{Bool, true, false, cond}
 use mathlib.Core.List.{List, [], ◌∷◌}
 use lib.Dec.{ltb, eqb}
-use lib.ListN.{length, get_or, drop, replicate}
+use lib.ListN.{length, get_or, drop}
 use lib.Seq.{drop-cons, drop-length}
 use borrow.Author.Tests.{eq-eqb, ne_eqb, ltb-true, eqb-true}
 use Rattle.std.specs.List.{fold, sum as std_sum}
 use Rattle.std.specs.Ordering.{nat_cmp, is_lt, is_some_and}
 use Rattle.std.specs.Cmp.Lexicographic.{slice_partial_cmp}
 use Rattle.std.proofs.Common.{Some}
-use Rattle.model.specs.Lists.{sum, same, lower, position}
+use Rattle.model.specs.Lists.{sum, lower, position}
 
 -- the places from the i-th on, the first of them apart
 pub from-here : (xs : List ℕ) (i : ℕ) → i < length xs → drop i xs ≡ get_or xs i 0 ∷ drop (i + 1) xs

@@ -2,7 +2,7 @@ use Prim.Native.Nat.{ℕ, ◌+◌, ◌≤◌}
 use mathlib.Core.Path.{◌≡◌, sym, ap, ◌∙◌, subst}
 use native.Mathlib.Omega.{arith}
 use native.Mathlib.Numerals.{add-one}
-use lib.ListN.{length, take, get_or}
+use lib.ListN.{take, get_or}
 use Rattle.model.specs.Lists.{sum as added, part}
 use Rattle.model.specs.Whole.{whole}
 use Rattle.model.specs.Plan.{Route, route_of, decode}

@@ -1,5 +1,5 @@
 -- The invariant: the sum is the exact cost of the routes passed, and the next route begins where they end.
-use Prim.Native.Nat.{◌+◌, ◌-◌, ◌≤◌}
+use Prim.Native.Nat.{◌+◌}
 use mathlib.Core.Path.{◌≡◌}
 use lib.ListN.{take}
 use Rattle.model.specs.Lists.{sum as added}

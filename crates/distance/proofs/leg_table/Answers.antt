@@ -11,10 +11,10 @@ place_ends-requires c =
 pub loop-i-init : goal.loop-i-init
 loop-i-init c = record { few = omega arith; long = c.requires.1; cells = λ p k h. absurd (omega arith) }
 
-pub start_of-from-requires : goal.start_of-from-requires
-start_of-from-requires c =
+pub location_of-from-requires : goal.location_of-from-requires
+location_of-from-requires c =
     let I = c.requires.0 in
-    (I.vehicles, I.stops)
+    (I.vehicles, I.stops, omega arith)
 
 pub fill_row-requires : goal.fill_row-requires
 fill_row-requires c =
@@ -23,9 +23,9 @@ fill_row-requires c =
 pub loop-i-preserved : goal.loop-i-preserved
 loop-i-preserved c =
     let a = c.args in
-    rows_more a.vehicles.now a.stops.now a.locations a.distances.now c.requires.0 c.loop-i.i c.start_of-from.result
+    rows_more a.vehicles.now a.stops.now a.locations a.distances.now c.requires.0 c.loop-i.i c.location_of-from.result
     c.place_ends.new.ends c.loop-i.legs c.fill_row.new.legs c.loop-i.invariant c.loop-i-test.true
-    (c.start_of-from.ensures a.distances.now) (c.place_ends.ensures a.distances.now) c.fill_row.ensures
+    (λ p. c.location_of-from.ensures.from a.distances.now p refl) (c.place_ends.ensures a.distances.now) c.fill_row.ensures
 
 pub shape_of-legs : goal.shape_of-legs
 shape_of-legs c = c.loop-i.invariant.long ∙ sym c.requires.1
