@@ -66,7 +66,8 @@ pub fn placed_set(plan: &[u32], v: usize, n: usize) -> u64
 }
 
 // The first position of a stop, or the length where there is none. It goes from the end to the front and does not leave early: so the
-// compiler compares several numbers at once, and no branch is guessed wrong.
+// compiler compares several numbers at once, and no branch is guessed wrong. The answer is a number and no Option, as in the definition: `find`
+// runs the routes' lengths down from it, and a stop that is nowhere is past them all.
 pub fn position(part: &[u32], stop: u32) -> usize
     ensures { result ≡ position stop part.now }
 {
