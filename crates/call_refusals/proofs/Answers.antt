@@ -81,9 +81,9 @@ module _ (A : Arguments) where
   unfolding view_answer view_said seen_left
   views r seen h k = record { answer = h; said = ap said_by_viewed h ∙ said-viewed (refusal View A) none (refusal-number View A); list = k }
 
-  pub views-refused : (e : Refusal) → number_of e ≡ refusal View A → Views A (Err e) (seen_given A)
-  views-refused e h =
-      views (Err e) (seen_given A) (err-answer e none ∙ ap (λ (y : ℕ). viewed y none) h)
+  pub views-refused : (r : Result ℕ Refusal) (e : Refusal) → r ≡ Err e → number_of e ≡ refusal View A → Views A r (seen_given A)
+  views-refused r e k h =
+      views r (seen_given A) (k ∙ err-answer e none ∙ ap (λ (y : ℕ). viewed y none) h)
       (some-seen (number_of e) A _ (number-some e) ∙ ap (λ (y : ℕ). seen_by y A (view A.vans (lent_plan A))) h)
 
   pub views-accepted : (set : ℕ) (seen : List ℕ) → refusal View A ≡ 0 → set ≡ unplaced_set (stop_count A.job) (lent_plan A)
@@ -109,9 +109,9 @@ module _ (A : Arguments) where
   unfolding move_answer move_said
   moves r left h k = record { answer = h; said = ap said_by_moved h ∙ said-carried (refusal MoveStop A) change (refusal-number MoveStop A); plan = k }
 
-  pub moves-refused : (e : Refusal) → number_of e ≡ refusal MoveStop A → Moves A (Err e) A.plan
-  moves-refused e h =
-      moves (Err e) A.plan (err-answer e change ∙ ap (λ (y : ℕ). carried y change) h) (left-alone MoveStop A e h)
+  pub moves-refused : (r : Result ℤ Refusal) (e : Refusal) → r ≡ Err e → number_of e ≡ refusal MoveStop A → Moves A r A.plan
+  moves-refused r e k h =
+      moves r A.plan (k ∙ err-answer e change ∙ ap (λ (y : ℕ). carried y change) h) (left-alone MoveStop A e h)
 
   pub moves-accepted : (z : ℤ) (left : List ℕ) → refusal MoveStop A ≡ 0 → z ≡ cost_change A.job A.vans (move_given A) (lent_plan A)
       → left ≡ encode (stop_count A.job) (moved (move_given A) (lent_plan A))
@@ -136,8 +136,8 @@ module _ (A : Arguments) where
   unfolding road_answer road_said
   raises r h = record { answer = h; said = ap said_by_raised h ∙ said-raised (refusal Roadworks A) most (refusal-number Roadworks A) }
 
-  pub raises-refused : (e : Refusal) → number_of e ≡ refusal Roadworks A → Raises A (Err e)
-  raises-refused e h = raises (Err e) (err-answer e most ∙ ap (λ (y : ℕ). raised y most) h)
+  pub raises-refused : (r : Result ℕ Refusal) (e : Refusal) → r ≡ Err e → number_of e ≡ refusal Roadworks A → Raises A r
+  raises-refused r e k h = raises r (k ∙ err-answer e most ∙ ap (λ (y : ℕ). raised y most) h)
 
   pub raises-accepted : (rise : ℕ) → refusal Roadworks A ≡ 0 → rise ≡ ceiling A.job (road_given A) (lent_plan A) → Raises A (Ok rise)
   raises-accepted rise e h = raises (Ok rise) (ap Ok h ∙ ap (λ (y : ℕ). raised y most) (sym e))
