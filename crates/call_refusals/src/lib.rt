@@ -292,9 +292,10 @@ pub fn of_move_stop(
         van,
         place,
     ) {
-        return Err(Refusal::Vans);
+        Err(Refusal::Vans)
+    } else {
+        Ok(())
     }
-    Ok(())
 }
 
 // The first of 6 and 7 that applies where a road gets longer, or 0. The road is of the table before its entry is looked up.
@@ -307,9 +308,10 @@ fn of_road(vehicles: &[u32], stops: &[u32], locations: u32, distances: &[u32], r
     }
     of_entries(vehicles, stops, locations, distances)?;
     if road_tests::bad_entry(locations, distances, road) {
-        return Err(Refusal::Distances);
+        Err(Refusal::Distances)
+    } else {
+        Ok(())
     }
-    Ok(())
 }
 
 // What roadworks is refused with: 1 to 4, 6 to 8, 11, or none.

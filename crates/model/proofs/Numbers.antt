@@ -47,7 +47,7 @@ number-some NotLive h = cc
 
 -- 0, or the number of a refusal
 abbrev pub IsNumber : ℕ → Type 0
-IsNumber k = refused (answer k tt) ≡ k
+IsNumber k = refused {T = Unit {0}} (answer k tt) ≡ k
 
 either : (b : Bool) (k r : ℕ) → IsNumber k → IsNumber r → IsNumber (cond b k r)
 either true k r p q = p

@@ -37,7 +37,7 @@ abbrev pub answer : {T : Type 0} → ℕ → T → Result T Refusal
 answer zero t = Ok t
 answer (suc k) t = Err (refusal_after k)
 
--- the number of what tests come to: 0 where none applies
-abbrev pub refused : Result Unit Refusal → ℕ
+-- the number of an answer, or of what tests come to: 0 where it is accepted
+abbrev pub refused : {T : Type 0} → Result T Refusal → ℕ
 refused (Ok _) = 0
 refused (Err e) = number_of e

@@ -93,7 +93,8 @@ pub fn rebuild(
     let mut legs = [0u32; 6400];
     distance::leg_table(vehicles, stops, locations, distances, &mut legs);
     let v = vehicles.len() / 2;
-    Ok(rebuild::rebuild(&legs, v, stops.len(), prices, plan, given))
+    let w = rebuild::rebuild(&legs, v, stops.len(), prices, plan, given);
+    Ok(w)
 }
 
 // Writes the plan that the exhaustive solver chooses, and weighs it.

@@ -30,8 +30,8 @@ returns-then-bad_move c =
     (left _ _ 15 _ _ c.bad_vans.ensures c.if-bad_vans.false (taken _ _ 15 0 c.bad_move.ensures c.if-bad_move.true))
     ∙ sym (move-order _ _ _ _)
 
-pub returns : goal.returns
-returns c =
+pub returns-else-bad_move : goal.returns-else-bad_move
+returns-else-bad_move c =
     passed_first _ _ _ c.in_ok-of_rebuild.ensures
     (left _ _ 15 _ _ c.bad_vans.ensures c.if-bad_vans.false (left _ _ 15 0 0 c.bad_move.ensures c.if-bad_move.false refl))
     ∙ sym (move-order _ _ _ _)

@@ -25,8 +25,8 @@ returns-then-bad_entry c =
     left _ _ 6 _ _ c.bad_road.ensures c.if-bad_road.false
     (passed_first _ _ _ c.in_ok-of_entries.ensures (taken _ _ 7 0 c.bad_entry.ensures c.if-bad_entry.true))
 
-pub returns : goal.returns
+pub returns-else-bad_entry : goal.returns-else-bad_entry
 unfolding of_road
-returns c =
+returns-else-bad_entry c =
     left _ _ 6 _ _ c.bad_road.ensures c.if-bad_road.false
     (passed_first _ _ _ c.in_ok-of_entries.ensures (left _ _ 7 0 0 c.bad_entry.ensures c.if-bad_entry.false refl))
