@@ -16,7 +16,7 @@ priced linear quadratic missed = record { linear = linear; quadratic = quadratic
 
 -- ---- the numbers lent for results: the answer's, or what was there, where the call is refused
 
--- where the answer is one value: the cost, the set of unplaced stops, the change in cost with its sign, or the rise in cost
+-- where one value is lent: the cost, the set of unplaced stops, the change in cost with its sign, or the rise in cost; and the walk of a rebuild
 abbrev pub value_left : {T : Type 0} → Result T Refusal → T → T
 value_left (Ok t) old = t
 value_left (Err e) old = old
@@ -24,10 +24,6 @@ value_left (Err e) old = old
 -- of rebuild: the cost, the fillings begun, the arrangements completed
 abbrev pub walk : Float → ℕ → ℕ → Walk
 walk cost begun completed = record { cost = cost; begun = begun; completed = completed }
-
-unfoldable pub walk_left : Result Walk Refusal → Walk → Walk
-walk_left (Err e) old = old
-walk_left (Ok w) old = w
 
 -- of arrive and cancel: the live set, the cost
 unfoldable pub live_left : Result Standing Refusal → ℕ → ℕ
@@ -68,7 +64,7 @@ pub record HandsCost (c : Call) (A : Arguments) (r : ℕ) (old new : Float) (lef
 
 pub record HandsRebuilt (A : Arguments) (r : ℕ) (old new : Walk) (left : List ℕ) : Type 0 where
   pub said : saying r (amount new.cost ∷ new.begun ∷ new.completed ∷ []) ≡ rebuild_said A
-  pub walk : new ≡ walk_left (rebuild_answer A) old
+  pub walk : new ≡ value_left (rebuild_answer A) old
   pub plan : left ≡ plan_left Rebuild A
 
 pub record HandsPlan (A : Arguments) (r : ℕ) (left : List ℕ) : Type 0 where

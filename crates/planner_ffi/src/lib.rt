@@ -8,7 +8,7 @@ ghost use Rattle.model.specs.Refusals.{asking, naming, looking, moving, lengthen
 ghost use Rattle.model.specs.Vans.{move_to};
 ghost use Rattle.model.specs.Roads.{road_from};
 ghost use Rattle.model.specs.Numbers.{refused};
-ghost use Rattle.planner_ffi.specs.Border.{priced, value_left, walk, walk_left, results, results_left, live_left, live_cost_left, HandsCost, HandsRebuilt, HandsPlan, HandsRun, HandsChange, HandsView, HandsMove, HandsRise};
+ghost use Rattle.planner_ffi.specs.Border.{priced, value_left, walk, results, results_left, live_left, live_cost_left, HandsCost, HandsRebuilt, HandsPlan, HandsRun, HandsChange, HandsView, HandsMove, HandsRise};
 
 use model::{Prices, Refusal, Standing, Totals, Walk};
 
@@ -27,6 +27,7 @@ fn hand<T: Copy>(answer: Result<T, Refusal>, lent: &mut T) -> u32
 }
 
 // The number, the new live set and the cost of an answer.
+#[tactic(auto, unfolding(crate::specs::Border::live_left, crate::specs::Border::live_cost_left))]
 fn hand_change(answer: Result<Standing, Refusal>, after: &mut u64, cost: &mut f64) -> u32
     ensures number { result ≡ refused answer }
     ensures after_after { after.new ≡ live_left answer after.old }
@@ -44,7 +45,7 @@ fn hand_rebuilt(
     completed: &mut u64,
 ) -> u32
     ensures number { result ≡ refused answer }
-    ensures completed_after { walk cost.new begun.new completed.new ≡ walk_left answer (walk cost.old begun.old completed.old) }
+    ensures completed_after { walk cost.new begun.new completed.new ≡ value_left answer (walk cost.old begun.old completed.old) }
 {
     hand(answer.map(|w| w.begun), begun);
     hand(answer.map(|w| w.completed), completed);
@@ -52,6 +53,7 @@ fn hand_rebuilt(
 }
 
 // The number and the values of a run's answer.
+#[tactic(auto, unfolding(crate::specs::Border::results_left))]
 fn hand_totals(
     answer: Result<Totals, Refusal>,
     start: &mut f64,
