@@ -4,6 +4,9 @@ use mathlib.Core.Bool.{Bool, true, false, cond, ◌||◌}
 use mathlib.Core.List.{List, [], ◌∷◌}
 use Prim.Native.Nat.{ℕ, zero, suc}
 use Rattle.model.specs.declared.Prices.{Prices}
+use Rattle.model.specs.declared.refusal.Refusal.{Refusal}
+use Rattle.model.specs.Numbers.{number_of}
+use Rattle.model.proofs.Numbers.{number-some}
 use Rattle.model.specs.declared.Road.{Road}
 use Rattle.model.specs.Job.{Job, job_of, vehicle_count, stop_count}
 use Rattle.model.specs.Plan.{decode}
@@ -61,12 +64,12 @@ first_some : (a b : ℕ) → (a ≡ 0 → ⊥) → first a b ≡ a
 first_some zero b h = absurd (h refl)
 first_some (suc a) b h = refl
 
--- a number that is not 0 is the first, and after a 0 comes the rest
-pub said-first : (x s r : ℕ) → x ≡ s → (x ≡ 0 → ⊥) → x ≡ first s r
-said-first x s r e h = e ∙ sym (first_some s r (λ z. h (e ∙ z)))
+-- a refusal is the first, and after none comes the rest
+pub said-first : (e : Refusal) (s r : ℕ) → number_of e ≡ s → number_of e ≡ first s r
+said-first e s r h = h ∙ sym (first_some s r (λ z. number-some e (h ∙ z)))
 
-pub passed_first : (x s r y : ℕ) → x ≡ s → x ≡ 0 → y ≡ r → y ≡ first s r
-passed_first x s r y e z k = rw (sym e ∙ z) k
+pub passed_first : (s r y : ℕ) → 0 ≡ s → y ≡ r → y ≡ first s r
+passed_first s r y e k = rw (← e) k
 
 -- a test that was made, with its number
 pub taken : (b t : Bool) (k r : ℕ) → t ≡ b → t ≡ true → k ≡ cond b k r

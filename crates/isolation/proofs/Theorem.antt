@@ -5,7 +5,7 @@ use native.Mathlib.Omega.{arith}
 use mathlib.Core.Path.{◌≡◌, refl, sym, ap, ◌∙◌}
 use mathlib.Core.List.{List, [], ◌∷◌}
 use lib.ListN.{length}
-use Rattle.model.specs.declared.Moved.TheVariants as M
+use Rattle.std.specs.Prelude.{Ok}
 use Rattle.model.specs.Job.{Job, vehicle_count, stop_count}
 use Rattle.model.specs.Plan.{Plan, Lent, encode, decode}
 use Rattle.model.specs.Vans.{Move, view, moved, own_cost, cost_change}
@@ -132,7 +132,7 @@ module _ (J : Job) (vans : ℕ) (m : Move) (xs ys : List ℕ) (A : Alike (vehicl
   same_answer = rw move-refused (go (refusal MoveStop (moving J ys vans m)) refl)
     where
       go : (k : ℕ) → refusal MoveStop (moving J ys vans m) ≡ k → carried k (cost_change J vans m P) ≡ carried k (cost_change J vans m Q)
-      go zero e = ap M.Change (change-alike (move-refused ∙ e) e)
+      go zero e = ap Ok (change-alike (move-refused ∙ e) e)
       go (suc k) e = refl
 
   same_left : Alike (vehicle_count J) (stop_count J) vans (plan_left MoveStop (moving J xs vans m)) (plan_left MoveStop (moving J ys vans m))

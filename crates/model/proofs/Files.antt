@@ -7,7 +7,8 @@ use Prim.Native.String.{String}
 use mathlib.Core.Bool.{true}
 use mathlib.Core.List.{List, [], ◌∷◌, ◌++◌}
 use lib.Ieee as Ieee
-use Rattle.model.specs.declared.Solved.TheVariants.{Refused, Ran}
+use Rattle.std.specs.Prelude.{Ok, Err}
+use Rattle.model.specs.declared.refusal.Refusal.TheVariants.{File}
 use Rattle.model.specs.Whole.{whole}
 use Rattle.model.specs.Run.{Task}
 use Rattle.model.specs.File.{
@@ -60,7 +61,7 @@ pub file_a : file_of task_a ≡ lines_of (
 unfolding file_of first_line vehicle_lines stop_lines distance_lines draw_lines lines line fields columns digits last_digits lines_of
 file_a = refl
 
-pub printed_a : printed 2 ((1 ∷ 0 ∷ []) ∷ []) (Ran (record { start = whole 20; end = whole 6; rounds = 10; improving = 1; settled = true })) ≡ lines_of (
+pub printed_a : printed 2 ((1 ∷ 0 ∷ []) ∷ []) (Ok (record { start = whole 20; end = whole 6; rounds = 10; improving = 1; settled = true })) ≡ lines_of (
     "   0   0" ∷
     "   1   0" ∷
     "                  20                   6                  10                   1                   1" ∷
@@ -69,14 +70,14 @@ unfolding printed printed_run printed_stop line fields columns digits last_digit
 printed_a = refl
 
 -- a stop that is not on a route
-pub printed_unplaced : printed 1 ([] ∷ []) (Ran (record { start = whole 7; end = whole 7; rounds = 0; improving = 0; settled = true })) ≡ lines_of (
+pub printed_unplaced : printed 1 ([] ∷ []) (Ok (record { start = whole 7; end = whole 7; rounds = 0; improving = 0; settled = true })) ≡ lines_of (
     "   0   -" ∷
     "                   7                   7                   0                   0                   1" ∷
     [])
 unfolding printed printed_run printed_stop line fields columns digits last_digits lines_of Ieee.of_int Ieee.to_unsigned
 printed_unplaced = refl
 
-pub printed_refused : printed 1 ([] ∷ []) (Refused 14) ≡ lines_of ("                  14" ∷ [])
+pub printed_refused : printed 1 ([] ∷ []) (Err File) ≡ lines_of ("                  14" ∷ [])
 unfolding printed printed_refusal line fields columns digits last_digits lines_of
 printed_refused = refl
 

@@ -34,3 +34,4 @@ pub mod Tasks
 pub mod Fitting
 pub mod Cut
 pub mod Distinct
+pub mod Numbers

@@ -13,7 +13,8 @@ use Rattle.model.specs.Vans.{Move, move_to, unplaced_set, view, moved, own_cost,
 use Rattle.model.specs.Refusals.{Arguments, looking, moving, MoveStop}
 use Rattle.model.specs.Calls.{Said, SignedSaid, view_answer, seen_left, move_answer, plan_left, said_by_viewed, said_by_moved}
 use Rattle.model.specs.Studios.{Alike, answers, after_moves}
-use Rattle.model.specs.declared.Moved.TheVariants as M
+use Rattle.std.specs.Prelude.{Ok, Err}
+use Rattle.model.specs.declared.refusal.Refusal.TheVariants.{Vans}
 use Rattle.model.proofs.Computed.{computed}
 use Rattle.model.proofs.DayA.{tiny, table_a, only1, both}
 use Rattle.model.proofs.PlanForm.{is_plan-lent}
@@ -115,7 +116,7 @@ pub record Rows : Type 0 where
   -- and to the other van
   pub target : tried two first 1 (move_to 1 1 0) ≡ refused 15 first
   -- a refused move leaves the plan, so the second of these is as if it were the first
-  pub list : answers two 2 (move_to 0 1 0 ∷ move_to 1 1 0 ∷ []) first ≡ (M.Refused 15 ∷ M.Change (negsuc 99) ∷ [])
+  pub list : answers two 2 (move_to 0 1 0 ∷ move_to 1 1 0 ∷ []) first ≡ (Err Vans ∷ Ok (negsuc 99) ∷ [])
   pub left : after_moves two 2 (move_to 0 1 0 ∷ move_to 1 1 0 ∷ []) first ≡ each
   -- two plans, one view
   pub one_way : looked three on_first 4 (7 ∷ 7 ∷ sevens) ≡ shows 0 (0 ∷ 0 ∷ 1 ∷ 1 ∷ unused ∷ [])

@@ -1,22 +1,10 @@
 -- The public calls: what each answers and what it leaves in the lent plan, for refused and accepted arguments alike.
-use Rattle.std.specs.Prelude.{◌≡◌, ℕ, zero, suc, ◌+◌, Bool, true, false, cond, ◌&&◌, ◌||◌, not, List, [], ◌∷◌, leb, ℤ, length, get_or, replicate}
+use Rattle.std.specs.Prelude.{◌≡◌, ℕ, zero, suc, ◌+◌, Bool, true, false, cond, ◌&&◌, ◌||◌, not, List, [], ◌∷◌, leb, ℤ, length, get_or, replicate, Float, Result, Ok, Err}
 use Rattle.model.specs.declared.Totals.{Totals}
-use Rattle.model.specs.declared.Weighed.{Weighed}
-use Rattle.model.specs.declared.Weighed.TheVariants as W
-use Rattle.model.specs.declared.Rebuilt.{Rebuilt}
-use Rattle.model.specs.declared.Rebuilt.TheVariants as B
-use Rattle.model.specs.declared.Written.{Written}
-use Rattle.model.specs.declared.Written.TheVariants as D
-use Rattle.model.specs.declared.Solved.{Solved}
-use Rattle.model.specs.declared.Solved.TheVariants as S
-use Rattle.model.specs.declared.Changed.{Changed}
-use Rattle.model.specs.declared.Changed.TheVariants as C
-use Rattle.model.specs.declared.Viewed.{Viewed}
-use Rattle.model.specs.declared.Viewed.TheVariants as Seen
-use Rattle.model.specs.declared.Moved.{Moved}
-use Rattle.model.specs.declared.Moved.TheVariants as M
-use Rattle.model.specs.declared.Raised.{Raised}
-use Rattle.model.specs.declared.Raised.TheVariants as R
+use Rattle.model.specs.declared.Walk.{Walk}
+use Rattle.model.specs.declared.Standing.{Standing}
+use Rattle.model.specs.declared.refusal.Refusal.{Refusal}
+use Rattle.model.specs.Numbers.{number_of, answer}
 use Rattle.model.specs.Whole.{whole, amount}
 use Rattle.model.specs.Job.{Job, vehicle_count, stop_count}
 use Rattle.model.specs.Plan.{Plan, encode, decode}
@@ -130,41 +118,33 @@ seen_left A = seen_by (refusal View A) A (view A.vans (lent_plan A))
 
 -- ---- the answers
 
-abbrev pub weighed : ℕ → ℕ → Weighed
-weighed zero c = W.Cost (whole c)
-weighed (suc k) c = W.Refused (suc k)
+abbrev pub weighed : ℕ → ℕ → Result Float Refusal
+weighed x c = answer x (whole c)
 
 -- the cost, the fillings begun, the arrangements completed
-abbrev pub rebuilt : ℕ → ℕ → ℕ → ℕ → Rebuilt
-rebuilt zero c b m = B.Walked (record { cost = whole c; begun = b; completed = m })
-rebuilt (suc k) c b m = B.Refused (suc k)
+abbrev pub rebuilt : ℕ → ℕ → ℕ → ℕ → Result Walk Refusal
+rebuilt x c b m = answer x (record { cost = whole c; begun = b; completed = m })
 
-abbrev pub written : ℕ → Written
-written zero = D.Done
-written (suc k) = D.Refused (suc k)
+abbrev pub written : ℕ → Result Unit Refusal
+written x = answer x tt
 
-abbrev pub solved : ℕ → Totals → Solved
-solved zero t = S.Ran t
-solved (suc k) t = S.Refused (suc k)
+abbrev pub solved : ℕ → Totals → Result Totals Refusal
+solved x t = answer x t
 
-abbrev pub changed : ℕ → ℕ → ℕ → Changed
-changed zero live c = C.Stands (record { live = live; cost = whole c })
-changed (suc k) live c = C.Refused (suc k)
+abbrev pub changed : ℕ → ℕ → ℕ → Result Standing Refusal
+changed x live c = answer x (record { live = live; cost = whole c })
 
-abbrev pub viewed : ℕ → ℕ → Viewed
-viewed zero set = Seen.Unplaced set
-viewed (suc k) set = Seen.Refused (suc k)
+abbrev pub viewed : ℕ → ℕ → Result ℕ Refusal
+viewed x set = answer x set
 
-abbrev pub carried : ℕ → ℤ → Moved
-carried zero z = M.Change z
-carried (suc k) z = M.Refused (suc k)
+abbrev pub carried : ℕ → ℤ → Result ℤ Refusal
+carried x z = answer x z
 
-abbrev pub raised : ℕ → ℕ → Raised
-raised zero x = R.Rise x
-raised (suc k) x = R.Refused (suc k)
+abbrev pub raised : ℕ → ℕ → Result ℕ Refusal
+raised x rise = answer x rise
 
 -- of weigh, two_opt, exhaustive and pruned: the cost of the plan that is left
-unfoldable pub cost_answer : Call → Arguments → Weighed
+unfoldable pub cost_answer : Call → Arguments → Result Float Refusal
 cost_answer c A = weighed (refusal c A) (cost A.job (made c A))
 
 -- what the walk of a rebuild counts, in the plan that was lent and the regions around the given stops
@@ -175,31 +155,31 @@ unfoldable pub completed_by : Arguments → ℕ
 completed_by A = completed (lent_plan A) (regions (lent_plan A) A.given)
 
 -- of rebuild: the cost of the plan that is left, and both counts
-unfoldable pub rebuild_answer : Arguments → Rebuilt
+unfoldable pub rebuild_answer : Arguments → Result Walk Refusal
 rebuild_answer A = rebuilt (refusal Rebuild A) (cost A.job (made Rebuild A)) (begun_by A) (completed_by A)
 
 -- of start_plan
-unfoldable pub start_answer : Arguments → Written
+unfoldable pub start_answer : Arguments → Result Unit Refusal
 start_answer A = written (refusal StartPlan A)
 
 -- of solve
-unfoldable pub solve_answer : Arguments → Solved
+unfoldable pub solve_answer : Arguments → Result Totals Refusal
 solve_answer A = solved (refusal Solve A) (totals (task_of A))
 
 -- of arrive and cancel: the new live set, and the cost of the plan that is left while those stops are live
-unfoldable pub live_answer : Call → Arguments → Changed
+unfoldable pub live_answer : Call → Arguments → Result Standing Refusal
 live_answer c A = changed (refusal c A) (new_live c A) (live_cost A.job (new_live c A) (made c A))
 
 -- of view: the set of unplaced stops
-unfoldable pub view_answer : Arguments → Viewed
+unfoldable pub view_answer : Arguments → Result ℕ Refusal
 view_answer A = viewed (refusal View A) (unplaced_set (stop_count A.job) (lent_plan A))
 
 -- of move_stop: the change in cost of the caller's vans and of the missed part
-unfoldable pub move_answer : Arguments → Moved
+unfoldable pub move_answer : Arguments → Result ℤ Refusal
 move_answer A = carried (refusal MoveStop A) (cost_change A.job A.vans (move_given A) (lent_plan A))
 
 -- of roadworks: the ceiling on the rise in cost
-unfoldable pub road_answer : Arguments → Raised
+unfoldable pub road_answer : Arguments → Result ℕ Refusal
 road_answer A = raised (refusal Roadworks A) (ceiling A.job (road_given A) (lent_plan A))
 
 -- ---- the number and the values for each case of an answer: 0 where it is accepted, and then its values
@@ -208,39 +188,39 @@ pub record Said : Type 0 where
   pub number : ℕ
   pub values : List ℕ
 
-unfoldable pub said_by_weighed : Weighed → Said
-said_by_weighed (W.Refused k) = record { number = k; values = [] }
-said_by_weighed (W.Cost c) = record { number = 0; values = amount c ∷ [] }
+unfoldable pub said_by_weighed : Result Float Refusal → Said
+said_by_weighed (Err e) = record { number = number_of e; values = [] }
+said_by_weighed (Ok c) = record { number = 0; values = amount c ∷ [] }
 
 -- the cost, the fillings begun, the arrangements completed
-unfoldable pub said_by_rebuilt : Rebuilt → Said
-said_by_rebuilt (B.Refused k) = record { number = k; values = [] }
-said_by_rebuilt (B.Walked w) = record { number = 0; values = amount w.cost ∷ w.begun ∷ w.completed ∷ [] }
+unfoldable pub said_by_rebuilt : Result Walk Refusal → Said
+said_by_rebuilt (Err e) = record { number = number_of e; values = [] }
+said_by_rebuilt (Ok w) = record { number = 0; values = amount w.cost ∷ w.begun ∷ w.completed ∷ [] }
 
-unfoldable pub said_by_written : Written → Said
-said_by_written (D.Refused k) = record { number = k; values = [] }
-said_by_written D.Done = record { number = 0; values = [] }
+unfoldable pub said_by_written : Result Unit Refusal → Said
+said_by_written (Err e) = record { number = number_of e; values = [] }
+said_by_written (Ok _) = record { number = 0; values = [] }
 
 -- start cost, end cost, rounds, improving rounds, 1 for settled or 0 for cut
-unfoldable pub said_by_solved : Solved → Said
-said_by_solved (S.Refused k) = record { number = k; values = [] }
-said_by_solved (S.Ran t) =
+unfoldable pub said_by_solved : Result Totals Refusal → Said
+said_by_solved (Err e) = record { number = number_of e; values = [] }
+said_by_solved (Ok t) =
     record { number = 0; values = amount t.start ∷ amount t.end ∷ t.rounds ∷ t.improving ∷ cond t.settled 1 0 ∷ [] }
 
 -- the live set, the cost
-unfoldable pub said_by_changed : Changed → Said
-said_by_changed (C.Refused k) = record { number = k; values = [] }
-said_by_changed (C.Stands t) = record { number = 0; values = t.live ∷ amount t.cost ∷ [] }
+unfoldable pub said_by_changed : Result Standing Refusal → Said
+said_by_changed (Err e) = record { number = number_of e; values = [] }
+said_by_changed (Ok t) = record { number = 0; values = t.live ∷ amount t.cost ∷ [] }
 
 -- the set of unplaced stops
-unfoldable pub said_by_viewed : Viewed → Said
-said_by_viewed (Seen.Refused k) = record { number = k; values = [] }
-said_by_viewed (Seen.Unplaced set) = record { number = 0; values = set ∷ [] }
+unfoldable pub said_by_viewed : Result ℕ Refusal → Said
+said_by_viewed (Err e) = record { number = number_of e; values = [] }
+said_by_viewed (Ok set) = record { number = 0; values = set ∷ [] }
 
 -- the rise
-unfoldable pub said_by_raised : Raised → Said
-said_by_raised (R.Refused k) = record { number = k; values = [] }
-said_by_raised (R.Rise x) = record { number = 0; values = x ∷ [] }
+unfoldable pub said_by_raised : Result ℕ Refusal → Said
+said_by_raised (Err e) = record { number = number_of e; values = [] }
+said_by_raised (Ok x) = record { number = 0; values = x ∷ [] }
 
 -- the same with values that have a sign
 pub record SignedSaid : Type 0 where
@@ -248,9 +228,9 @@ pub record SignedSaid : Type 0 where
   pub values : List ℤ
 
 -- the change
-unfoldable pub said_by_moved : Moved → SignedSaid
-said_by_moved (M.Refused k) = record { number = k; values = [] }
-said_by_moved (M.Change z) = record { number = 0; values = z ∷ [] }
+unfoldable pub said_by_moved : Result ℤ Refusal → SignedSaid
+said_by_moved (Err e) = record { number = number_of e; values = [] }
+said_by_moved (Ok z) = record { number = 0; values = z ∷ [] }
 
 -- ---- the number and values that a call has to say, in whole numbers
 
@@ -297,42 +277,42 @@ solve_said A = let T = task_of A in saying (refusal Solve A) (run_values T (roun
 -- ---- what a call promises: its answer, the number and values that this is, and the lent plan at exit (`solve` promises more: see planner)
 
 -- weigh, two_opt, exhaustive and pruned
-pub record Weighs (c : Call) (A : Arguments) (r : Weighed) (left : List ℕ) : Type 0 where
+pub record Weighs (c : Call) (A : Arguments) (r : Result Float Refusal) (left : List ℕ) : Type 0 where
   pub answer : r ≡ cost_answer c A
   pub said : said_by_weighed r ≡ cost_said c A
   pub plan : left ≡ plan_left c A
 
 -- rebuild
-pub record Rebuilds (A : Arguments) (r : Rebuilt) (left : List ℕ) : Type 0 where
+pub record Rebuilds (A : Arguments) (r : Result Walk Refusal) (left : List ℕ) : Type 0 where
   pub answer : r ≡ rebuild_answer A
   pub said : said_by_rebuilt r ≡ rebuild_said A
   pub plan : left ≡ plan_left Rebuild A
 
 -- start_plan
-pub record Writes (A : Arguments) (r : Written) (left : List ℕ) : Type 0 where
+pub record Writes (A : Arguments) (r : Result Unit Refusal) (left : List ℕ) : Type 0 where
   pub answer : r ≡ start_answer A
   pub said : said_by_written r ≡ start_said A
   pub plan : left ≡ plan_left StartPlan A
 
 -- arrive and cancel
-pub record Changes (c : Call) (A : Arguments) (r : Changed) (left : List ℕ) : Type 0 where
+pub record Changes (c : Call) (A : Arguments) (r : Result Standing Refusal) (left : List ℕ) : Type 0 where
   pub answer : r ≡ live_answer c A
   pub said : said_by_changed r ≡ live_said c A
   pub plan : left ≡ plan_left c A
 
 -- view; `seen` is the list that it is written to, at exit
-pub record Views (A : Arguments) (r : Viewed) (seen : List ℕ) : Type 0 where
+pub record Views (A : Arguments) (r : Result ℕ Refusal) (seen : List ℕ) : Type 0 where
   pub answer : r ≡ view_answer A
   pub said : said_by_viewed r ≡ view_said A
   pub list : seen ≡ seen_left A
 
 -- move_stop
-pub record Moves (A : Arguments) (r : Moved) (left : List ℕ) : Type 0 where
+pub record Moves (A : Arguments) (r : Result ℤ Refusal) (left : List ℕ) : Type 0 where
   pub answer : r ≡ move_answer A
   pub said : said_by_moved r ≡ move_said A
   pub plan : left ≡ plan_left MoveStop A
 
 -- roadworks, which only reads the plan
-pub record Raises (A : Arguments) (r : Raised) : Type 0 where
+pub record Raises (A : Arguments) (r : Result ℕ Refusal) : Type 0 where
   pub answer : r ≡ road_answer A
   pub said : said_by_raised r ≡ road_said A

@@ -1,5 +1,5 @@
 -- Specification, 15: a day of arrivals and cancellations on one job, and what is promised after every list of them.
-use Rattle.std.specs.Prelude.{◌≡◌, ◌≢◌, ℕ, ◌+◌, ◌≤◌, ◌<◌, Bool, true, false, cond, ◌&&◌, List, [], ◌∷◌, eqb, ltb, Float, length}
+use Rattle.std.specs.Prelude.{◌≡◌, ◌≢◌, ℕ, ◌+◌, ◌≤◌, ◌<◌, Bool, true, false, cond, ◌&&◌, List, [], ◌∷◌, eqb, ltb, Float, length, Result, Ok, Err}
 use Rattle.model.specs.Lists.{concat, count, Once}
 use Rattle.model.specs.Whole.{exact, whole, amount}
 use Rattle.model.specs.Job.{Job, vehicle_count, stop_count}
@@ -8,8 +8,8 @@ use Rattle.model.specs.StopSet.{contains}
 use Rattle.model.specs.Cost.{driving_cost, missed_cost}
 use Rattle.model.specs.Rebuild.{empty_plan}
 use Rattle.model.specs.Refusals.{Arguments, naming, Call, Arrive, Cancel, refusal, bad_vehicles, bad_stops, bad_table, bad_locations, bad_distances, bad_prices}
-use Rattle.model.specs.declared.Changed.{Changed}
-use Rattle.model.specs.declared.Changed.TheVariants as C
+use Rattle.model.specs.declared.Standing.{Standing}
+use Rattle.model.specs.declared.refusal.Refusal.{Refusal}
 use Rattle.model.specs.Live.{missed_stops, live_cost}
 use Rattle.model.specs.Calls.{plan_left, live_answer}
 
@@ -61,9 +61,9 @@ abbrev pub arguments_of : Job → Day → Event → Arguments
 arguments_of J D e = naming J D.plan D.live (stop_of e)
 
 -- the day with the plan that a call has left, and its answer: a refused call answers nothing new
-abbrev pub answered : Changed → List ℕ → Day → Day
-answered (C.Refused k) plan D = record { plan = plan; live = D.live; cost = D.cost }
-answered (C.Stands t) plan D = record { plan = plan; live = t.live; cost = t.cost }
+abbrev pub answered : Result Standing Refusal → List ℕ → Day → Day
+answered (Err e) plan D = record { plan = plan; live = D.live; cost = D.cost }
+answered (Ok t) plan D = record { plan = plan; live = t.live; cost = t.cost }
 
 -- an event
 unfoldable pub next : Job → Day → Event → Day

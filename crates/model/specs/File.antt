@@ -1,7 +1,8 @@
 -- Specification, 12, and refusal 14: a task as the bytes of its file, and an answer as the bytes that the program prints.
-use Rattle.std.specs.Prelude.{◌≡◌, ℕ, zero, suc, ◌+◌, ◌-◌, ◌*◌, ◌/◌, ◌%◌, ◌^◌, ◌≤◌, ◌<◌, cond, List, [], ◌∷◌, ◌++◌, ltb, ℤ, pos, negsuc, length, get_or, take, drop, replicate}
-use Rattle.model.specs.declared.Solved.{Solved}
-use Rattle.model.specs.declared.Solved.TheVariants.{Refused, Ran}
+use Rattle.std.specs.Prelude.{◌≡◌, ℕ, zero, suc, ◌+◌, ◌-◌, ◌*◌, ◌/◌, ◌%◌, ◌^◌, ◌≤◌, ◌<◌, cond, List, [], ◌∷◌, ◌++◌, ltb, ℤ, pos, negsuc, length, get_or, take, drop, replicate, Result, Ok, Err}
+use Rattle.model.specs.declared.Totals.{Totals}
+use Rattle.model.specs.declared.refusal.Refusal.{Refusal}
+use Rattle.model.specs.Numbers.{number_of}
 use Rattle.model.specs.Lists.{for_each, up_from}
 use Rattle.model.specs.Whole.{amount}
 use Rattle.model.specs.Job.{Job, vehicle_count, stop_count}
@@ -167,9 +168,9 @@ unfoldable pub printed_refusal : ℕ → List ℕ
 printed_refusal number = line 20 (number ∷ [])
 
 -- the answer of a run that was lent n stops and left the plan P
-unfoldable pub printed : ℕ → Plan → Solved → List ℕ
-printed n P (Refused number) = printed_refusal number
-printed n P (Ran t) = printed_run n P (amount t.start) (amount t.end) t.rounds t.improving (cond t.settled 1 0)
+unfoldable pub printed : ℕ → Plan → Result Totals Refusal → List ℕ
+printed n P (Err e) = printed_refusal (number_of e)
+printed n P (Ok t) = printed_run n P (amount t.start) (amount t.end) t.rounds t.improving (cond t.settled 1 0)
 
 -- what the program prints for a task: what `solve` answers, with the plan that it leaves
 unfoldable pub printed_task : Task → List ℕ

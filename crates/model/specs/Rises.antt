@@ -1,6 +1,5 @@
 -- Specification, 19: what is promised of roadworks. The answer is never below the true rise in cost, and fits 64 bits.
-use Rattle.std.specs.Prelude.{◌≡◌, ℕ, ◌+◌, ◌^◌, ◌<◌, ◌≤◌, List, []}
-use Rattle.model.specs.declared.Raised.TheVariants as R
+use Rattle.std.specs.Prelude.{◌≡◌, ℕ, ◌+◌, ◌^◌, ◌<◌, ◌≤◌, List, [], Ok}
 use Rattle.model.specs.declared.Road.{Road}
 use Rattle.model.specs.Job.{Job, vehicle_count}
 use Rattle.model.specs.Plan.{Plan, Route, decode}
@@ -23,7 +22,7 @@ pub record Rises (J : Job) (road : Road) (P : Plan) : Type 0 where
 pub record RoadPromise (J : Job) (plan : List ℕ) (road : Road) : Type 0 where
   pub rises : Rises J road (decode (vehicle_count J) plan)
   -- what is answered is that ceiling, and it fits 64 bits
-  pub answer : road_answer (lengthening J plan road) ≡ R.Rise (ceiling J road (decode (vehicle_count J) plan))
+  pub answer : road_answer (lengthening J plan road) ≡ Ok (ceiling J road (decode (vehicle_count J) plan))
   pub fits : ceiling J road (decode (vehicle_count J) plan) < 2 ^ 64
   -- `weigh` takes the lengthened job with the same plan, so that the true rise is the difference of two of its answers
   pub weighed : refusal Weigh (asking (lengthened J road) plan []) ≡ 0

@@ -1,8 +1,7 @@
 -- Specification, 17: what is promised to studios that share a plan. Nothing that a caller sees or is answered depends on anybody else's vans.
-use Rattle.std.specs.Prelude.{◌≡◌, ◌≢◌, ℕ, ◌<◌, true, List, [], ◌∷◌}
+use Rattle.std.specs.Prelude.{◌≡◌, ◌≢◌, ℕ, ◌<◌, true, List, [], ◌∷◌, ℤ, Result, Ok}
 use Rattle.std.proofs.Math.IntN.{sub_ℕ}
-use Rattle.model.specs.declared.Moved.{Moved}
-use Rattle.model.specs.declared.Moved.TheVariants as M
+use Rattle.model.specs.declared.refusal.Refusal.{Refusal}
 use Rattle.model.specs.Lists.{concat, without, count, position}
 use Rattle.model.specs.Job.{Job, vehicle_count, stop_count}
 use Rattle.model.specs.Plan.{Plan, Lent, decode, route_of, vehicle_of, is_placed}
@@ -28,7 +27,7 @@ pub record Alike (v n vans : ℕ) (xs ys : List ℕ) : Type 0 where
 -- ---- a list of moves by one caller, one after another
 
 -- what they answer
-abbrev pub answers : Job → ℕ → List Move → List ℕ → List Moved
+abbrev pub answers : Job → ℕ → List Move → List ℕ → List (Result ℤ Refusal)
 answers J vans [] plan = []
 answers J vans (m ∷ ms) plan = move_answer (moving J plan vans m) ∷ answers J vans ms (plan_left MoveStop (moving J plan vans m))
 
@@ -72,4 +71,4 @@ pub record MovePromise (J : Job) (plan : List ℕ) (vans : ℕ) (m : Move) (left
   pub form : Lent (vehicle_count J) (stop_count J) left
   pub carried : Carried m (decode (vehicle_count J) plan) (decode (vehicle_count J) left)
   -- the change answered is the change of the whole plan's cost
-  pub change : move_answer (moving J plan vans m) ≡ M.Change (sub_ℕ (cost J (decode (vehicle_count J) left)) (cost J (decode (vehicle_count J) plan)))
+  pub change : move_answer (moving J plan vans m) ≡ Ok (sub_ℕ (cost J (decode (vehicle_count J) left)) (cost J (decode (vehicle_count J) plan)))

@@ -47,13 +47,6 @@ pub struct Totals {
     pub settled: bool,
 }
 
-// The answer of a call that gives a cost.
-#[derive(Clone, Copy)]
-pub enum Weighed {
-    Refused(u32),
-    Cost(f64),
-}
-
 // What the walk of a rebuild comes to: the cost of the best plan, how many fillings of the first region it began, and how many arrangements
 // it completed.
 #[derive(Clone, Copy)]
@@ -63,58 +56,9 @@ pub struct Walk {
     pub completed: u64,
 }
 
-// The answer of a rebuild.
-#[derive(Clone, Copy)]
-pub enum Rebuilt {
-    Refused(u32),
-    Walked(Walk),
-}
-
-// The answer of a call that only writes a plan.
-#[derive(Clone, Copy)]
-pub enum Written {
-    Refused(u32),
-    Done,
-}
-
-// The answer of a run.
-#[derive(Clone, Copy)]
-pub enum Solved {
-    Refused(u32),
-    Ran(Totals),
-}
-
 // What stands after an arrival or a cancellation: the set of live stops, and the cost of the plan.
 #[derive(Clone, Copy)]
 pub struct Standing {
     pub live: u64,
     pub cost: f64,
-}
-
-// The answer of a call that adds a stop or cancels one.
-#[derive(Clone, Copy)]
-pub enum Changed {
-    Refused(u32),
-    Stands(Standing),
-}
-
-// The answer of a view: the set of unplaced stops.
-#[derive(Clone, Copy)]
-pub enum Viewed {
-    Refused(u32),
-    Unplaced(u64),
-}
-
-// The answer of a move: the signed change in cost.
-#[derive(Clone, Copy)]
-pub enum Moved {
-    Refused(u32),
-    Change(i64),
-}
-
-// The answer of roadworks: how much dearer the plan can become.
-#[derive(Clone, Copy)]
-pub enum Raised {
-    Refused(u32),
-    Rise(u64),
 }

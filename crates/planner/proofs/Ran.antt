@@ -4,7 +4,7 @@ use mathlib.Core.List.{List}
 use Prim.Native.Nat.{ℕ, zero, suc}
 use native.Mathlib.Omega.{arith}
 use Rattle.model.specs.declared.Totals.{Totals}
-use Rattle.model.specs.declared.Solved.TheVariants as S
+use Rattle.std.specs.Prelude.{Ok}
 use Rattle.model.specs.Whole.{IsWhole}
 use Rattle.model.specs.Job.{vehicle_count, stop_count}
 use Rattle.model.specs.Plan.{encode, decode, Lent, Sizes}
@@ -14,11 +14,11 @@ use Rattle.model.proofs.PlanForm.{decode-encode}
 use Rattle.run_promise.proofs.Left.{formed-lent, start-formed, formed-exact, final-formed}
 use Rattle.planner.proofs.Solving.{task-accepted}
 
-some-ran : (x : ℕ) (t u : Totals) → S.Ran t ≡ solved x u → (x ≡ 0) × (t ≡ u)
+some-ran : (x : ℕ) (t u : Totals) → Ok t ≡ solved x u → (x ≡ 0) × (t ≡ u)
 some-ran zero t u e = (refl, cc)
 some-ran (suc x) t u e = let z : ◌≡◌ {A = ℕ} 0 1 = cc in absurd (omega arith)
 
-module _ (A : Arguments) (t : Totals) (e : S.Ran t ≡ solve_answer A) where
+module _ (A : Arguments) (t : Totals) (e : Ok t ≡ solve_answer A) where
   ran : (refusal Solve A ≡ 0) × (t ≡ totals (task_of A))
   unfolding solve_answer
   ran = some-ran (refusal Solve A) t (totals (task_of A)) e

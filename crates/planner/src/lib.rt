@@ -9,7 +9,7 @@ ghost use Rattle.model.specs.Refusals.{asking, Weigh, TwoOpt, Exhaustive, Pruned
 ghost use Rattle.model.specs.Calls.{Weighs, Rebuilds, Writes};
 ghost use Rattle.planner.specs.Kept.{Solves};
 
-use model::{Prices, Rebuilt, Solved, Weighed, Written};
+use model::{Prices, Refusal, Totals, Walk};
 pub use planner_live::{arrive, cancel};
 pub use planner_roads::roadworks;
 pub use planner_vans::{move_stop, view};
@@ -22,17 +22,14 @@ pub fn weigh(
     distances: &[u32],
     prices: Prices,
     plan: &[u32],
-) -> Weighed
+) -> Result<f64, Refusal>
     ensures { Weighs Weigh (asking (job_of vehicles.now stops.now locations distances.now prices) plan.now []) result plan.now }
 {
-    let refused = call_refusals::of_weigh(vehicles, stops, locations, distances, prices, plan);
-    if refused != 0 {
-        return Weighed::Refused(refused);
-    }
+    call_refusals::of_weigh(vehicles, stops, locations, distances, prices, plan)?;
     let mut legs = [0u32; 6400];
     distance::leg_table(vehicles, stops, locations, distances, &mut legs);
     let v = vehicles.len() / 2;
-    Weighed::Cost(delivery::cost(&legs, v, stops.len(), prices, plan))
+    Ok(delivery::cost(&legs, v, stops.len(), prices, plan))
 }
 
 // Writes the start plan.
@@ -42,18 +39,15 @@ pub fn start_plan(
     locations: u32,
     distances: &[u32],
     plan: &mut [u32],
-) -> Written
+) -> Result<(), Refusal>
     ensures { Writes (asking (job_of vehicles.now stops.now locations distances.now unpriced) plan.old []) result plan.new }
 {
-    let refused = call_refusals::of_start_plan(vehicles, stops, locations, distances, plan);
-    if refused != 0 {
-        return Written::Refused(refused);
-    }
+    call_refusals::of_start_plan(vehicles, stops, locations, distances, plan)?;
     let mut legs = [0u32; 6400];
     distance::leg_table(vehicles, stops, locations, distances, &mut legs);
     let v = vehicles.len() / 2;
     nearest_neighbor::start_plan(&legs, v, stops.len(), plan);
-    Written::Done
+    Ok(())
 }
 
 // Improves a plan by the two-opt move of one pair of stops, and weighs it.
@@ -66,22 +60,19 @@ pub fn two_opt(
     plan: &mut [u32],
     first: u32,
     second: u32,
-) -> Weighed
+) -> Result<f64, Refusal>
     ensures { Weighs TwoOpt (asking (job_of vehicles.now stops.now locations distances.now prices) plan.old (first ∷ second ∷ [])) result plan.new }
 {
     let both = [first, second];
-    let refused = call_refusals::of_rebuild(
+    call_refusals::of_rebuild(
         vehicles, stops, locations, distances, prices, plan, &both,
-    );
-    if refused != 0 {
-        return Weighed::Refused(refused);
-    }
+    )?;
     let mut legs = [0u32; 6400];
     distance::leg_table(vehicles, stops, locations, distances, &mut legs);
     let v = vehicles.len() / 2;
     let n = stops.len();
     two_opt::pair(&legs, v, n, prices, plan, first, second);
-    Weighed::Cost(delivery::cost(&legs, v, n, prices, plan))
+    Ok(delivery::cost(&legs, v, n, prices, plan))
 }
 
 // Rebuilds a plan around one or two stops, weighs it, and tells what the walk counts.
@@ -93,20 +84,17 @@ pub fn rebuild(
     prices: Prices,
     plan: &mut [u32],
     given: &[u32],
-) -> Rebuilt
+) -> Result<Walk, Refusal>
     ensures { Rebuilds (asking (job_of vehicles.now stops.now locations distances.now prices) plan.old given.now) result plan.new }
 {
-    let refused = call_refusals::of_rebuild(
+    call_refusals::of_rebuild(
         vehicles, stops, locations, distances, prices, plan, given,
-    );
-    if refused != 0 {
-        return Rebuilt::Refused(refused);
-    }
+    )?;
     let mut legs = [0u32; 6400];
     distance::leg_table(vehicles, stops, locations, distances, &mut legs);
     let v = vehicles.len() / 2;
     let w = rebuild::rebuild(&legs, v, stops.len(), prices, plan, given);
-    Rebuilt::Walked(w)
+    Ok(w)
 }
 
 // Writes the plan that the exhaustive solver chooses, and weighs it.
@@ -117,17 +105,14 @@ pub fn exhaustive(
     distances: &[u32],
     prices: Prices,
     plan: &mut [u32],
-) -> Weighed
+) -> Result<f64, Refusal>
     ensures { Weighs Exhaustive (asking (job_of vehicles.now stops.now locations distances.now prices) plan.old []) result plan.new }
 {
-    let refused = call_refusals::of_exhaustive(vehicles, stops, locations, distances, prices, plan);
-    if refused != 0 {
-        return Weighed::Refused(refused);
-    }
+    call_refusals::of_exhaustive(vehicles, stops, locations, distances, prices, plan)?;
     let mut legs = [0u32; 6400];
     distance::leg_table(vehicles, stops, locations, distances, &mut legs);
     let v = vehicles.len() / 2;
-    Weighed::Cost(exhaustive::exhaustive(&legs, v, stops.len(), prices, plan))
+    Ok(exhaustive::exhaustive(&legs, v, stops.len(), prices, plan))
 }
 
 // Writes the plan that the pruned solver chooses, and weighs it.
@@ -138,17 +123,14 @@ pub fn pruned(
     distances: &[u32],
     prices: Prices,
     plan: &mut [u32],
-) -> Weighed
+) -> Result<f64, Refusal>
     ensures { Weighs Pruned (asking (job_of vehicles.now stops.now locations distances.now prices) plan.old []) result plan.new }
 {
-    let refused = call_refusals::of_exhaustive(vehicles, stops, locations, distances, prices, plan);
-    if refused != 0 {
-        return Weighed::Refused(refused);
-    }
+    call_refusals::of_exhaustive(vehicles, stops, locations, distances, prices, plan)?;
     let mut legs = [0u32; 6400];
     distance::leg_table(vehicles, stops, locations, distances, &mut legs);
     let v = vehicles.len() / 2;
-    Weighed::Cost(pruned::pruned(&legs, v, stops.len(), prices, plan))
+    Ok(pruned::pruned(&legs, v, stops.len(), prices, plan))
 }
 
 // Runs the planner: the start plan, and rounds up to the end rule. The plan that is left keeps the promise about whole runs.
@@ -162,18 +144,15 @@ pub fn solve(
     limit: u32,
     draws: &[u32],
     plan: &mut [u32],
-) -> Solved
+) -> Result<Totals, Refusal>
     ensures { Solves (running (job_of vehicles.now stops.now locations distances.now prices) smoothing limit draws.now plan.old) result plan.new }
 {
-    let number = call_refusals::of_solve(
+    call_refusals::of_solve(
         vehicles, stops, locations, distances, prices, smoothing, limit, draws, plan,
-    );
-    if number != 0 {
-        return Solved::Refused(number);
-    }
+    )?;
     let mut legs = [0u32; 6400];
     distance::leg_table(vehicles, stops, locations, distances, &mut legs);
     let v = vehicles.len() / 2;
     let n = stops.len();
-    Solved::Ran(ruin_and_recreate::run(&legs, v, n, prices, smoothing, limit, draws, plan))
+    Ok(ruin_and_recreate::run(&legs, v, n, prices, smoothing, limit, draws, plan))
 }

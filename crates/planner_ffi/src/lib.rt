@@ -7,123 +7,70 @@ ghost use Rattle.model.specs.Job.{job_of};
 ghost use Rattle.model.specs.Refusals.{asking, naming, looking, moving, lengthening, tableless, Weigh, TwoOpt, Exhaustive, Pruned, Arrive, Cancel, unpriced, running};
 ghost use Rattle.model.specs.Vans.{move_to};
 ghost use Rattle.model.specs.Roads.{road_from};
-ghost use Rattle.model.specs.Calls.{said_by_weighed, said_by_rebuilt, said_by_solved, said_by_changed, said_by_viewed, said_by_moved, said_by_raised};
-ghost use Rattle.planner_ffi.specs.Border.{priced, cost_left, walk, walk_left, results, results_left, live_left, live_cost_left, unplaced_left, change_left, rise_left, HandsCost, HandsRebuilt, HandsPlan, HandsRun, HandsChange, HandsView, HandsMove, HandsRise};
+ghost use Rattle.model.specs.Numbers.{refused};
+ghost use Rattle.planner_ffi.specs.Border.{priced, value_left, walk, results, results_left, live_left, live_cost_left, HandsCost, HandsRebuilt, HandsPlan, HandsRun, HandsChange, HandsView, HandsMove, HandsRise};
 
-use model::{Changed, Moved, Prices, Raised, Rebuilt, Solved, Viewed, Weighed, Written};
+use model::{Prices, Refusal, Standing, Totals, Walk};
 
-// The number and the cost of an answer.
-fn hand_cost(answer: Weighed, cost: &mut f64) -> u32
-    ensures value { result ≡ (said_by_weighed answer).number }
-    ensures cost_after { cost.new ≡ cost_left answer cost.old }
+// The number of an answer: that of the refusal, or 0, and then the value goes where it is wanted.
+fn hand<T: Copy>(answer: Result<T, Refusal>, lent: &mut T) -> u32
+    ensures number { result ≡ refused answer }
+    ensures value { lent.new ≡ value_left answer lent.old }
 {
     match answer {
-        Weighed::Refused(number) => number,
-        Weighed::Cost(c) => {
-            *cost = c;
+        Ok(value) => {
+            *lent = value;
             0
         }
-    }
-}
-
-// The number, the cost and both counts of an answer.
-fn hand_rebuilt(answer: Rebuilt, cost: &mut f64, begun: &mut u64, completed: &mut u64) -> u32
-    ensures value { result ≡ (said_by_rebuilt answer).number }
-    ensures completed_after { walk cost.new begun.new completed.new ≡ walk_left answer (walk cost.old begun.old completed.old) }
-{
-    match answer {
-        Rebuilt::Refused(number) => number,
-        Rebuilt::Walked(w) => {
-            *cost = w.cost;
-            *begun = w.begun;
-            *completed = w.completed;
-            0
-        }
+        Err(refusal) => refusal.into(),
     }
 }
 
 // The number, the new live set and the cost of an answer.
-fn hand_change(answer: Changed, after: &mut u64, cost: &mut f64) -> u32
-    ensures value { result ≡ (said_by_changed answer).number }
+#[tactic(auto, unfolding(crate::specs::Border::live_left, crate::specs::Border::live_cost_left))]
+fn hand_change(answer: Result<Standing, Refusal>, after: &mut u64, cost: &mut f64) -> u32
+    ensures number { result ≡ refused answer }
     ensures after_after { after.new ≡ live_left answer after.old }
     ensures cost_after { cost.new ≡ live_cost_left answer cost.old }
 {
-    match answer {
-        Changed::Refused(number) => number,
-        Changed::Stands(t) => {
-            *after = t.live;
-            *cost = t.cost;
-            0
-        }
-    }
+    hand(answer.map(|t| t.live), after);
+    hand(answer.map(|t| t.cost), cost)
 }
 
-// The number and the set of unplaced stops of an answer.
-fn hand_view(answer: Viewed, unplaced: &mut u64) -> u32
-    ensures value { result ≡ (said_by_viewed answer).number }
-    ensures unplaced_after { unplaced.new ≡ unplaced_left answer unplaced.old }
+// The number, the cost and both counts of an answer.
+fn hand_rebuilt(
+    answer: Result<Walk, Refusal>,
+    cost: &mut f64,
+    begun: &mut u64,
+    completed: &mut u64,
+) -> u32
+    ensures number { result ≡ refused answer }
+    ensures completed_after { walk cost.new begun.new completed.new ≡ value_left answer (walk cost.old begun.old completed.old) }
 {
-    match answer {
-        Viewed::Refused(number) => number,
-        Viewed::Unplaced(set) => {
-            *unplaced = set;
-            0
-        }
-    }
-}
-
-// The number and the change in cost of an answer.
-fn hand_move(answer: Moved, change: &mut i64) -> u32
-    ensures value { result ≡ (said_by_moved answer).number }
-    ensures change_after { change.new ≡ change_left answer change.old }
-{
-    match answer {
-        Moved::Refused(number) => number,
-        Moved::Change(difference) => {
-            *change = difference;
-            0
-        }
-    }
-}
-
-// The number and the rise in cost of an answer.
-fn hand_rise(answer: Raised, rise: &mut u64) -> u32
-    ensures value { result ≡ (said_by_raised answer).number }
-    ensures rise_after { rise.new ≡ rise_left answer rise.old }
-{
-    match answer {
-        Raised::Refused(number) => number,
-        Raised::Rise(most) => {
-            *rise = most;
-            0
-        }
-    }
+    hand(answer.map(|w| w.begun), begun);
+    hand(answer.map(|w| w.completed), completed);
+    hand(answer.map(|w| w.cost), cost)
 }
 
 // The number and the values of a run's answer.
+#[tactic(auto, unfolding(crate::specs::Border::results_left))]
 fn hand_totals(
-    answer: Solved,
+    answer: Result<Totals, Refusal>,
     start: &mut f64,
     end: &mut f64,
     rounds: &mut u32,
     improving: &mut u32,
     settled: &mut u32,
 ) -> u32
-    ensures value { result ≡ (said_by_solved answer).number }
+    ensures number { result ≡ refused answer }
     ensures settled_after { results start.new end.new rounds.new improving.new settled.new
         ≡ results_left answer (results start.old end.old rounds.old improving.old settled.old) }
 {
-    match answer {
-        Solved::Refused(number) => number,
-        Solved::Ran(t) => {
-            *start = t.start;
-            *end = t.end;
-            *rounds = t.rounds;
-            *improving = t.improving;
-            *settled = t.settled as u32;
-            0
-        }
-    }
+    hand(answer.map(|t| t.end), end);
+    hand(answer.map(|t| t.rounds), rounds);
+    hand(answer.map(|t| t.improving), improving);
+    hand(answer.map(|t| t.settled as u32), settled);
+    hand(answer.map(|t| t.start), start)
 }
 
 // Weighs a plan.
@@ -147,7 +94,7 @@ pub extern "C" fn planner_weigh(
         missed,
     };
     let answer = planner::weigh(vehicles, stops, locations, distances, prices, plan);
-    hand_cost(answer, cost)
+    hand(answer, cost)
 }
 
 // Writes the start plan.
@@ -162,8 +109,8 @@ pub extern "C" fn planner_start_plan(
     ensures { HandsPlan (asking (job_of vehicles.now stops.now locations distances.now unpriced) plan.old []) result plan.new }
 {
     match planner::start_plan(vehicles, stops, locations, distances, plan) {
-        Written::Refused(number) => number,
-        Written::Done => 0,
+        Ok(()) => 0,
+        Err(refusal) => refusal.into(),
     }
 }
 
@@ -192,7 +139,7 @@ pub extern "C" fn planner_two_opt(
     let answer = planner::two_opt(
         vehicles, stops, locations, distances, prices, plan, first, second,
     );
-    hand_cost(answer, cost)
+    hand(answer, cost)
 }
 
 // Rebuilds a plan around one or two stops, weighs it, and counts the fillings of the first region begun and the arrangements completed.
@@ -244,7 +191,7 @@ pub extern "C" fn planner_exhaustive(
         missed,
     };
     let answer = planner::exhaustive(vehicles, stops, locations, distances, prices, plan);
-    hand_cost(answer, cost)
+    hand(answer, cost)
 }
 
 // Writes the plan that the pruned solver chooses, and weighs it.
@@ -268,7 +215,7 @@ pub extern "C" fn planner_pruned(
         missed,
     };
     let answer = planner::pruned(vehicles, stops, locations, distances, prices, plan);
-    hand_cost(answer, cost)
+    hand(answer, cost)
 }
 
 // Runs the planner. The plan that is left keeps the promise about whole runs.
@@ -381,7 +328,7 @@ pub extern "C" fn planner_view(
         unplaced.old unplaced.new seen.new }
 {
     let answer = planner::view(vehicles, stops, plan, vans, seen);
-    hand_view(answer, unplaced)
+    hand(answer, unplaced)
 }
 
 // Moves a stop, from one of the caller's vans or from the unplaced ones, to a place of one of the caller's vans. The place is counted
@@ -413,7 +360,7 @@ pub extern "C" fn planner_move_stop(
     let answer = planner::move_stop(
         vehicles, stops, locations, distances, prices, plan, vans, stop, van, place,
     );
-    hand_move(answer, change)
+    hand(answer, change)
 }
 
 // The most by which a plan's cost can rise where roadworks make the road from one location to another longer by so many metres.
@@ -443,5 +390,5 @@ pub extern "C" fn planner_roadworks(
     let answer = planner::roadworks(
         vehicles, stops, locations, distances, prices, plan, from, to, more,
     );
-    hand_rise(answer, rise)
+    hand(answer, rise)
 }

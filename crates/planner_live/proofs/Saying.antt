@@ -3,8 +3,11 @@ use mathlib.Core.Path.{◌≡◌, refl, sym, ap, ◌∙◌}
 use mathlib.Core.List.{List, [], ◌∷◌}
 use Prim.Native.Nat.{ℕ, zero, suc, ◌≤◌}
 use lib.Ieee.{Float}
-use Rattle.model.specs.declared.Changed.{Changed}
-use Rattle.model.specs.declared.Changed.TheVariants as C
+use Rattle.std.specs.Prelude.{Result, Ok, Err}
+use Rattle.model.specs.declared.Standing.{Standing}
+use Rattle.model.specs.declared.refusal.Refusal.{Refusal}
+use Rattle.model.specs.Numbers.{number_of}
+use Rattle.model.proofs.Numbers.{IsNumber, refusal-number}
 use Rattle.model.specs.Whole.{whole, exact}
 use Rattle.model.specs.Job.{stop_count}
 use Rattle.model.specs.Plan.{encode}
@@ -14,20 +17,20 @@ use Rattle.model.specs.Calls.{made, new_live, plan_left, changed, live_answer, s
 use Rattle.whole.proofs.Laws.{amount-is}
 use Rattle.call_refusals.proofs.Answers.{change-refused, change-accepted, left-alone, left-new}
 
-said-change : (x live k : ℕ) → (x ≡ 0 → k ≤ exact) → said_by_changed (changed x live k) ≡ saying x (live ∷ k ∷ [])
+said-change : (x live k : ℕ) → IsNumber x → (x ≡ 0 → k ≤ exact) → said_by_changed (changed x live k) ≡ saying x (live ∷ k ∷ [])
 unfolding said_by_changed
-said-change zero live k h = ap (λ n. saying 0 (live ∷ n ∷ [])) (amount-is (whole k) k (h refl) refl)
-said-change (suc x) live k h = refl
+said-change zero live k n h = ap (λ n. saying 0 (live ∷ n ∷ [])) (amount-is (whole k) k (h refl) refl)
+said-change (suc x) live k n h = ap (λ y. record { number = y; values = [] }) n
 
 module _ (c : Call) (A : Arguments) (small : refusal c A ≡ 0 → live_cost A.job (new_live c A) (made c A) ≤ exact) where
-  changes : (r : Changed) (left : List ℕ) → r ≡ live_answer c A → left ≡ plan_left c A → Changes c A r left
+  changes : (r : Result Standing Refusal) (left : List ℕ) → r ≡ live_answer c A → left ≡ plan_left c A → Changes c A r left
   unfolding live_answer live_said
-  changes r left h k = record { answer = h; said = ap said_by_changed h ∙ said-change (refusal c A) _ _ small; plan = k }
+  changes r left h k = record { answer = h; said = ap said_by_changed h ∙ said-change (refusal c A) _ _ (refusal-number c A) small; plan = k }
 
-  pub changes-refused : (x : ℕ) → x ≡ refusal c A → (x ≡ 0 → ⊥) → Changes c A (C.Refused x) A.plan
-  changes-refused x e h = changes (C.Refused x) A.plan (change-refused c A x e h) (left-alone c A x e h)
+  pub changes-refused : (r : Result Standing Refusal) (e : Refusal) → r ≡ Err e → number_of e ≡ refusal c A → Changes c A r A.plan
+  changes-refused r e k h = changes r A.plan (k ∙ change-refused c A e h) (left-alone c A e h)
 
   pub changes-accepted : (live : ℕ) (f : Float) (left : List ℕ) → refusal c A ≡ 0 → live ≡ new_live c A
       → f ≡ whole (live_cost A.job (new_live c A) (made c A)) → left ≡ encode (stop_count A.job) (made c A)
-      → Changes c A (C.Stands (record { live = live; cost = f })) left
+      → Changes c A (Ok (record { live = live; cost = f })) left
   changes-accepted live f left e l h k = changes _ left (change-accepted c A live f (sym e) l h) (left-new c A left (sym e) k)

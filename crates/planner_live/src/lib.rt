@@ -5,7 +5,7 @@ ghost use Rattle.model.specs.Job.{job_of};
 ghost use Rattle.model.specs.Refusals.{naming, Arrive, Cancel};
 ghost use Rattle.model.specs.Calls.{Changes};
 
-use model::{Changed, Prices, Standing};
+use model::{Prices, Refusal, Standing};
 
 // Adds a stop while others are live: it is put where the plan then costs least, or stays unplaced where that is strictly cheaper.
 pub fn arrive(
@@ -17,20 +17,17 @@ pub fn arrive(
     plan: &mut [u32],
     live: u64,
     stop: u32,
-) -> Changed
+) -> Result<Standing, Refusal>
     ensures { Changes Arrive (naming (job_of vehicles.now stops.now locations distances.now prices) plan.old live stop) result plan.new }
 {
-    let refused = call_refusals::of_arrive(
+    call_refusals::of_arrive(
         vehicles, stops, locations, distances, prices, plan, live, stop,
-    );
-    if refused != 0 {
-        return Changed::Refused(refused);
-    }
+    )?;
     let mut legs = [0u32; 6400];
     distance::leg_table(vehicles, stops, locations, distances, &mut legs);
     let v = vehicles.len() / 2;
     let cost = arrival::arrive(&legs, v, stops.len(), prices, plan, live, stop);
-    Changed::Stands(Standing {
+    Ok(Standing {
         live: stop_set::with(live, stop),
         cost,
     })
@@ -46,20 +43,17 @@ pub fn cancel(
     plan: &mut [u32],
     live: u64,
     stop: u32,
-) -> Changed
+) -> Result<Standing, Refusal>
     ensures { Changes Cancel (naming (job_of vehicles.now stops.now locations distances.now prices) plan.old live stop) result plan.new }
 {
-    let refused = call_refusals::of_cancel(
+    call_refusals::of_cancel(
         vehicles, stops, locations, distances, prices, plan, live, stop,
-    );
-    if refused != 0 {
-        return Changed::Refused(refused);
-    }
+    )?;
     let mut legs = [0u32; 6400];
     distance::leg_table(vehicles, stops, locations, distances, &mut legs);
     let v = vehicles.len() / 2;
     let cost = cancellation::cancel(&legs, v, stops.len(), prices, plan, live, stop);
-    Changed::Stands(Standing {
+    Ok(Standing {
         live: stop_set::without(live, stop),
         cost,
     })

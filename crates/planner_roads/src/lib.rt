@@ -6,7 +6,7 @@ ghost use Rattle.model.specs.Roads.{road_from};
 ghost use Rattle.model.specs.Refusals.{lengthening};
 ghost use Rattle.model.specs.Calls.{Raises};
 
-use model::{Prices, Raised, Road};
+use model::{Prices, Refusal, Road};
 
 // The most by which a plan's cost can rise where roadworks make the road from one location to another longer by so many metres.
 pub fn roadworks(
@@ -19,15 +19,12 @@ pub fn roadworks(
     from: u32,
     to: u32,
     more: u32,
-) -> Raised
+) -> Result<u64, Refusal>
     ensures { Raises (lengthening (job_of vehicles.now stops.now locations distances.now prices) plan.now (road_from from to more)) result }
 {
     let road = Road { from, to, more };
-    let refused = call_refusals::of_roadworks(
+    call_refusals::of_roadworks(
         vehicles, stops, locations, distances, prices, plan, road,
-    );
-    if refused != 0 {
-        return Raised::Refused(refused);
-    }
-    Raised::Rise(roads::ceiling(vehicles, stops, locations, distances, prices, plan, road))
+    )?;
+    Ok(roads::ceiling(vehicles, stops, locations, distances, prices, plan, road))
 }

@@ -6,18 +6,15 @@ ghost use Rattle.model.specs.Refusals.{looking, moving, tableless};
 ghost use Rattle.model.specs.Vans.{move_to};
 ghost use Rattle.model.specs.Calls.{Views, Moves};
 
-use model::{Moved, Prices, Viewed};
+use model::{Prices, Refusal};
 
 // Shows a plan to a caller who holds a set of vans: the routes of other vans are emptied, and the unplaced stops are answered as a set.
-pub fn view(vehicles: &[u32], stops: &[u32], plan: &[u32], vans: u32, seen: &mut [u32]) -> Viewed
+pub fn view(vehicles: &[u32], stops: &[u32], plan: &[u32], vans: u32, seen: &mut [u32]) -> Result<u64, Refusal>
     ensures { Views (looking (tableless vehicles.now stops.now) plan.now vans seen.old) result seen.new }
 {
-    let refused = call_refusals::of_view(vehicles, stops, plan, vans, seen);
-    if refused != 0 {
-        return Viewed::Refused(refused);
-    }
+    call_refusals::of_view(vehicles, stops, plan, vans, seen)?;
     let v = vehicles.len() / 2;
-    Viewed::Unplaced(view::view(plan, v, stops.len(), vans, seen))
+    Ok(view::view(plan, v, stops.len(), vans, seen))
 }
 
 // Moves a stop, from one of the caller's vans or from the unplaced ones, to a place of one of the caller's vans, and answers the change
@@ -33,19 +30,16 @@ pub fn move_stop(
     stop: u32,
     van: u32,
     place: u32,
-) -> Moved
+) -> Result<i64, Refusal>
     ensures { Moves (moving (job_of vehicles.now stops.now locations distances.now prices) plan.old vans (move_to stop van place)) result plan.new }
 {
-    let refused = call_refusals::of_move_stop(
+    call_refusals::of_move_stop(
         vehicles, stops, locations, distances, prices, plan, vans, stop, van, place,
-    );
-    if refused != 0 {
-        return Moved::Refused(refused);
-    }
+    )?;
     let mut legs = [0u32; 6400];
     distance::leg_table(vehicles, stops, locations, distances, &mut legs);
     let v = vehicles.len() / 2;
     let to = van as usize;
     let at = place as usize;
-    Moved::Change(relocation::move_stop(&legs, v, stops.len(), prices, plan, stop, to, at))
+    Ok(relocation::move_stop(&legs, v, stops.len(), prices, plan, stop, to, at))
 }

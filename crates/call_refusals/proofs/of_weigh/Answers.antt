@@ -1,3 +1,5 @@
+use Rattle.std.proofs.Common.{rules, ◌≡◌, Err}
+use Rattle.model.specs.Numbers.{refused}
 use mathlib.Core.Path.{refl, sym, ap, ◌∙◌}
 use mathlib.Core.Bool.{not}
 use Rattle.model.specs.Refusals.{bad_plan}
@@ -5,22 +7,22 @@ use Rattle.call_refusals.proofs.Order.{weigh-order, said-first, passed_first, ta
 use Rattle.call_refusals.proofs.Passed.{job-sized}
 use Rattle.call_refusals.proofs.of_weigh.Goals as goal
 
-pub returns-then-job-ne0 : goal.returns-then-job-ne0
-returns-then-job-ne0 c = said-first _ _ _ c.of_job-job.ensures c.if-job-ne0.true ∙ sym (weigh-order _ refl)
+pub returns-in_err-of_job : goal.returns-in_err-of_job
+returns-in_err-of_job c = let e : c.from_residual.result ≡ Err c.in_err-of_job.field-0.0 = search rules in ap refused e ∙ said-first _ _ _ c.in_err-of_job.ensures ∙ sym (weigh-order _ refl)
 
 pub is_plan-requires : goal.is_plan-requires
 is_plan-requires c =
-    let s = job-sized _ _ _ _ _ _ _ c.of_job-job.ensures c.if-job-ne0.false in
+    let s = job-sized _ _ _ _ _ _ _ c.in_ok-of_job.ensures refl in
     record { sizes = s.sizes; plan_len = s.long }
 
-pub returns-then-is_plan : goal.returns-then-is_plan
+pub returns : goal.returns
 unfolding bad_plan
-returns-then-is_plan c =
-    passed_first _ _ _ _ c.of_job-job.ensures c.if-job-ne0.false (left _ _ 11 0 0 (ap not c.is_plan.ensures) (ap not c.if-is_plan.true) refl)
+returns c =
+    passed_first _ _ _ c.in_ok-of_job.ensures (left _ _ 11 0 0 (ap not c.is_plan.ensures) (ap not c.if-not-is_plan.false) refl)
     ∙ sym (weigh-order _ refl)
 
-pub returns-else-is_plan : goal.returns-else-is_plan
+pub returns-then-not-is_plan : goal.returns-then-not-is_plan
 unfolding bad_plan
-returns-else-is_plan c =
-    passed_first _ _ _ _ c.of_job-job.ensures c.if-job-ne0.false (taken _ _ 11 0 (ap not c.is_plan.ensures) (ap not c.if-is_plan.false))
+returns-then-not-is_plan c =
+    passed_first _ _ _ c.in_ok-of_job.ensures (taken _ _ 11 0 (ap not c.is_plan.ensures) (ap not c.if-not-is_plan.true))
     ∙ sym (weigh-order _ refl)

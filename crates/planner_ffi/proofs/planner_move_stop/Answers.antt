@@ -3,5 +3,5 @@ use Rattle.planner_ffi.proofs.planner_move_stop.Goals as goal
 
 pub returns : goal.returns
 returns c =
-    let h = c.hand_move.ensures in
-    hands-move _ _ _ c.move_stop-answer.ensures _ _ _ h.value h.change_after
+    let h = c.hand.ensures in
+    hands-move _ _ _ c.move_stop-answer.ensures _ _ _ h.number h.value

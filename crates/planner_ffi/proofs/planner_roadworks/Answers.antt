@@ -3,5 +3,5 @@ use Rattle.planner_ffi.proofs.planner_roadworks.Goals as goal
 
 pub returns : goal.returns
 returns c =
-    let h = c.hand_rise.ensures in
-    hands-rise _ _ c.roadworks-answer.ensures _ _ _ h.value h.rise_after
+    let h = c.hand.ensures in
+    hands-rise _ _ c.roadworks-answer.ensures _ _ _ h.number h.value

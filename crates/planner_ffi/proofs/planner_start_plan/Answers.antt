@@ -1,8 +1,10 @@
-use Rattle.planner_ffi.proofs.Handed.{refused-plan, accepted-plan}
+use mathlib.Core.Path.{sym, ap, ◌∙◌}
+use Rattle.model.specs.Numbers.{refused}
+use Rattle.planner_ffi.proofs.Handed.{hands-plan}
 use Rattle.planner_ffi.proofs.planner_start_plan.Goals as goal
 
-pub returns-in-Refused : goal.returns-in-Refused
-returns-in-Refused c = refused-plan _ _ _ c.start_plan.ensures _ c.in-Refused.is
+pub returns-in-Ok : goal.returns-in-Ok
+returns-in-Ok c = hands-plan _ _ _ c.start_plan.ensures _ (ap refused (sym c.in-Ok.is))
 
-pub returns-in-Done : goal.returns-in-Done
-returns-in-Done c = accepted-plan _ _ _ c.start_plan.ensures c.in-Done.is
+pub returns-in-Err : goal.returns-in-Err
+returns-in-Err c = hands-plan _ _ _ c.start_plan.ensures _ (c.into.ensures ∙ ap refused (sym c.in-Err.is))

@@ -3,5 +3,5 @@ use Rattle.planner_ffi.proofs.planner_view.Goals as goal
 
 pub returns : goal.returns
 returns c =
-    let h = c.hand_view.ensures in
-    hands-view _ _ _ c.view-answer.ensures _ _ _ h.value h.unplaced_after
+    let h = c.hand.ensures in
+    hands-view _ _ _ c.view-answer.ensures _ _ _ h.number h.value
