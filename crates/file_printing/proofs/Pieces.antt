@@ -27,16 +27,6 @@ use Rattle.file_columns.specs.Put.{written}
 use Rattle.file_printing.specs.Printing.{printed_vehicle, printed_stops, printed_totals, Prints}
 use Rattle.file_columns.proofs.Puts.{written-nil, written-more, set-one, set_after}
 
-pub dashed : (out : List ℕ) (at : ℕ) → at + 4 ≤ length out
-    → set (set (set (set out at space) (at + 1) space) (at + 2) space) (at + 3) dash ≡ written out at (justified 4 (dash ∷ []))
-dashed out at room =
-    rw (
-      set-one out at space (omega arith),
-      set_after out at (space ∷ []) space (omega arith),
-      set_after out at (space ∷ space ∷ []) space (omega arith),
-      set_after out at (space ∷ space ∷ space ∷ []) dash (omega arith),
-    )
-
 -- ---- the vehicle of a stop
 
 chosen : (b : Bool) (q p : Place) → cond b (At q) Nowhere ≡ At p → (b ≡ true) × (q ≡ p)

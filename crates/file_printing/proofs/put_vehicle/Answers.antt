@@ -23,4 +23,4 @@ returns-in-At c =
 pub returns-in-Nowhere : goal.returns-in-Nowhere
 returns-in-Nowhere c =
     let found = c.find in
-    c.put_dash.ensures ∙ ap (written _ _) (dash-printed _ _ found.result found.ensures c.in-Nowhere.is)
+    c.put_text.ensures ∙ ap (written _ _) (dash-printed _ _ found.result found.ensures c.in-Nowhere.is)
