@@ -43,9 +43,9 @@ pub returns : goal.returns
 returns c =
     told
     (λ d.
-        record {
-          vehicles = said c.check_lines.result (ap not c.if-not-check_lines.false) c.check_lines.ensures;
-          stops = said c.check_lines-2.result (ap not c.if-not-check_lines-2.false) c.check_lines-2.ensures;
-          distances = d;
-        })
+    record {
+      vehicles = said c.check_lines.result (ap not c.if-not-check_lines.false) c.check_lines.ensures;
+      stops = said c.check_lines-2.result (ap not c.if-not-check_lines-2.false) c.check_lines-2.ensures;
+      distances = d;
+    })
     (λ t. t.distances) c.check_lines-3.result c.check_lines-3.ensures

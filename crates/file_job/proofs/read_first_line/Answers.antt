@@ -9,7 +9,6 @@ pub returns-in_err-get : goal.returns-in_err-get
 returns-in_err-get c =
     let s = c.args in rw c.from_residual.ensures (no-first-room s.bytes.now s.at (omega (arith, c.in_err-get.ensures.lookup.0)))
 
-
 pub returns-then-branch-lt113 : goal.returns-then-branch-lt113
 returns-then-branch-lt113 c =
     let s = c.args in no-first-room s.bytes.now s.at (omega (arith, c.if-branch-lt113.true, c.in_ok-get.ensures.lookup.0.3))
