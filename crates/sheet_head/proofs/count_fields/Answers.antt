@@ -1,4 +1,4 @@
-use Rattle.std.proofs.Common.{◌≡◌, ℕ, Bool, true, false, Option, Some, None, is_some, refl, arith}
+use Rattle.std.proofs.Common.{◌≡◌, ℕ, true, false, Option, Some, None, is_some, refl, arith}
 use Rattle.file_lines.proofs.Checks.{field-within}
 use Rattle.sheet_head.proofs.Lists.{goes_on, ends}
 use Rattle.sheet_head.proofs.count_fields.Goals as goal

@@ -1,6 +1,5 @@
 use mathlib.Core.Path.{ap}
 use mathlib.Core.Bool.{not}
-use native.Mathlib.Omega.{arith}
 use Rattle.file_lines.proofs.Checks.{said, denied}
 use Rattle.sheet_head.proofs.Heads.{no_call, call-read}
 use Rattle.sheet_head.proofs.read_call.Goals as goal
