@@ -10,10 +10,8 @@ use Rattle.model.specs.Run.{Task}
 use Rattle.model.specs.File.{line, draw_lines, first_numbers, Readable, Stands, AcceptedAt}
 use Rattle.model.proofs.Pieces.{stands-within, fitting-nil, fitting-cons, Fitting, line-length, same_line}
 use Rattle.model.proofs.Tasks.{Placed, placed, stands, file-length, first-fitting, count_at, end_at}
-use Rattle.std.proofs.Common.{Option, Some, None, Result, Ok, Err}
-use Rattle.model.specs.declared.refusal.Refusal.{Refusal}
+use Rattle.std.proofs.Common.{Option, Some, None, Ok, Err}
 use Rattle.model.specs.declared.refusal.Refusal.TheVariants.{File}
-use Rattle.model.specs.Numbers.{number_of}
 use Rattle.file_job.specs.declared.FirstNumbers.{FirstNumbers}
 use Rattle.file_job.specs.declared.Header.{Header}
 use Rattle.file_job.specs.Reading.{first_list, InRange, FirstAt, TablesAt, IsDraws, DrawsAt, CheckedAt}

@@ -7,10 +7,7 @@ use lib.ListN.{length, get_or}
 use Rattle.model.specs.File.{line, lines, draw_lines, NoneOver, Stands}
 use Rattle.model.proofs.Pieces.{none-over-nil, none-over-cons}
 use Rattle.model.proofs.Tasks.{draw-parts, draws-stand}
-use Rattle.std.proofs.Common.{Option, Some, None, Result, Ok, Err}
-use Rattle.model.specs.declared.refusal.Refusal.{Refusal}
-use Rattle.model.specs.declared.refusal.Refusal.TheVariants.{File}
-use Rattle.model.specs.Numbers.{number_of}
+use Rattle.std.proofs.Common.{Some, None}
 use Rattle.file_columns.specs.Field.{NumberAt}
 use Rattle.file_lines.specs.Standing.{LineAt, LinesAt}
 use Rattle.file_job.specs.Reading.{IsDraws, DrawsAt}

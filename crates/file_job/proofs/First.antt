@@ -8,10 +8,7 @@ use lib.ListN.{length, get_or}
 use Rattle.model.specs.File.{columns, fields, line, NoneOver, Stands}
 use Rattle.model.proofs.Columns.{columns-length}
 use Rattle.model.proofs.Pieces.{join-at, part_at, none-over-nil, none-over-cons, fitting, fields-length}
-use Rattle.std.proofs.Common.{Option, Some, None, Result, Ok, Err}
-use Rattle.model.specs.declared.refusal.Refusal.{Refusal}
-use Rattle.model.specs.declared.refusal.Refusal.TheVariants.{File}
-use Rattle.model.specs.Numbers.{number_of}
+use Rattle.std.proofs.Common.{Option, Some, None}
 use Rattle.file_columns.specs.Field.{FieldAt, NumberAt}
 use Rattle.file_job.specs.declared.FirstNumbers.{FirstNumbers}
 use Rattle.file_lines.specs.Standing.{FieldsAt, LineAt}

@@ -111,9 +111,9 @@ module _ (bytes : List ℕ) where
       tested (eqb b line_feed)
       (λ t. rw t (line-whole at k h l (e ∙ eqb-true b line_feed t)))
       (λ f. rw f (λ line.
-          let t : true ≡ false = sym (eq-eqb b line_feed (sym e ∙ (line-end at k line).1)) ∙ f in
-          let z : ◌≡◌ {A = ℕ} 0 1 = cc in
-          absurd (omega arith)))
+      let t : true ≡ false = sym (eq-eqb b line_feed (sym e ∙ (line-end at k line).1)) ∙ f in
+      let z : ◌≡◌ {A = ℕ} 0 1 = cc in
+      absurd (omega arith)))
 
   -- ---- lines
 

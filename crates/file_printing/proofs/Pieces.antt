@@ -13,7 +13,7 @@ use Rattle.model.specs.declared.Totals.{Totals}
 use Rattle.model.specs.declared.Solved.TheVariants.{Ran}
 use Rattle.model.specs.Whole.{amount}
 use Rattle.model.specs.Plan.{Plan, decode, vehicle_of, is_placed, Sizes}
-use Rattle.model.specs.File.{space, line_feed, dash, justified, columns, fields, line, printed_stop, printed_run, printed_refusal, printed}
+use Rattle.model.specs.File.{line_feed, dash, justified, columns, fields, line, printed_stop, printed_run, printed_refusal, printed}
 use Rattle.model.proofs.Columns.{tested, columns-length}
 use Rattle.model.proofs.Lists.{up_from-append}
 use Rattle.model.proofs.Pieces.{for_each-append}
@@ -25,7 +25,7 @@ use Rattle.solution.specs.declared.Found.TheVariants.{At, Nowhere}
 use Rattle.solution.specs.Places.{place_of}
 use Rattle.file_columns.specs.Put.{written}
 use Rattle.file_printing.specs.Printing.{printed_vehicle, printed_stops, printed_totals, Prints}
-use Rattle.file_columns.proofs.Puts.{written-nil, written-more, set-one, set_after}
+use Rattle.file_columns.proofs.Puts.{written-nil, written-more, set_after}
 
 -- ---- the vehicle of a stop
 
