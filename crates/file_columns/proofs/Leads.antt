@@ -4,17 +4,16 @@ use Prim.Native.Nat.{ℕ, zero, suc, ◌+◌, ◌-◌, ◌*◌, ◌/◌, ◌%◌
 use native.Mathlib.Nat.{add-zero, add-suc, pow-suc, pow-le-pow_right}
 use native.Mathlib.Numerals.{add-one}
 use native.Mathlib.Omega.{arith}
-use mathlib.Core.Logic.{◌⊎◌, inl, inr}
 use mathlib.Core.List.{List, [], ◌∷◌, ◌++◌, append_assoc, append-nil}
 use borrow.Author.Tests.{ltb-true, ltb-false}
 use lib.Dec.{ltb}
-use lib.ListN.{length, get_or, take, drop, length-append, length-drop, replicate-append-replicate}
-use lib.Seq.{take-suc, get_or-drop}
+use Rattle.std.proofs.Common.{Option, Some, None}
+use lib.ListN.{length, get_or, take, drop, length-append, length-take, length-drop, replicate-append-replicate}
+use lib.Seq.{take-suc, take_all, length-take-le}
+use Rattle.std.proofs.lemmas.List.{get_or-take}
 use Rattle.model.specs.File.{space, digit, digits, columns, number_in, Stands}
 use Rattle.model.proofs.Columns.{tested, columns-length, digits-small, digits_more, number_in-columns, number_in-justified}
 use Rattle.model.proofs.Pieces.{cut-alike, stands-within}
-use Rattle.file_columns.specs.declared.Field.{Field}
-use Rattle.file_columns.specs.declared.Field.TheVariants.{Number, Bad}
 use Rattle.file_columns.specs.Field.{lead, last_column, Next, FieldAt}
 
 -- ---- the last column
@@ -58,7 +57,7 @@ last-alike xs ys x y e =
 -- ---- one more column
 
 -- a space before the number begins
-pub space-column : (value byte : ℕ) → value ≡ 0 → byte ≡ space → Next value byte (Number 0)
+pub space-column : (value byte : ℕ) → value ≡ 0 → byte ≡ space → Next value byte (Some 0)
 unfolding last_column
 space-column value byte v b = (omega arith, λ w. rw (v, b) (lead-last w 0))
 
@@ -73,7 +72,7 @@ last_column-positive (suc n) l = refl
 
 -- a digit, after which the number is not 0
 pub digit-column : (value byte : ℕ) → digit 0 ≤ byte → byte ≤ digit 9 → 0 < value * 10 + (byte - 48)
-    → Next value byte (Number (value * 10 + (byte - 48)))
+    → Next value byte (Some (value * 10 + (byte - 48)))
 digit-column value byte low high p =
     let n : ℕ = value * 10 + (byte - 48) in
     let d : n / 10 ≡ value = omega arith in
@@ -88,7 +87,7 @@ no_last value byte (suc n) not_space not_digit v b = omega (arith, not_digit (om
 
 -- any other byte leads to no number
 pub no-column : (value byte : ℕ) → (byte ≡ space → 0 < value) → (digit 0 ≤ byte → byte ≤ digit 9 → value * 10 + (byte - 48) ≡ 0)
-    → Next value byte Bad
+    → Next value byte None
 no-column value byte not_space not_digit w next e =
     let both = last-alike (lead w (next / 10)) (lead w value) (last_column next) byte (sym (lead-last w next) ∙ e) in
     no_last value byte next not_space not_digit
@@ -97,83 +96,103 @@ no-column value byte not_space not_digit w next e =
 -- ---- a whole field
 
 -- i columns of the field are read, and hold the value
-pub record Read (bytes : List ℕ) (at value i : ℕ) : Type 0 where
+pub record Read (field : List ℕ) (value i : ℕ) : Type 0 where
   pub within : i ≤ 13
   pub small : value < 10 ^ i
-  pub held : take i (drop at bytes) ≡ lead i value
+  pub held : take i field ≡ lead i value
 
-pub read_none : (bytes : List ℕ) (at : ℕ) → Read bytes at 0 0
+pub read_none : (field : List ℕ) → Read field 0 0
 unfolding lead
-read_none bytes at = record { within = omega arith; small = omega arith; held = refl }
+read_none field = record { within = omega arith; small = omega arith; held = refl }
 
 -- so much fits any machine number
-pub read_small : {bytes : List ℕ} {at value i : ℕ} → Read bytes at value i → value < 10 ^ 13
+pub read_small : {field : List ℕ} {value i : ℕ} → Read field value i → value < 10 ^ 13
 read_small {i = i} r = omega (arith, r.small, pow-le-pow_right {n = 10} (omega arith) r.within)
 
-pub no_room : (bytes : List ℕ) (at : ℕ) → length bytes < at + 14 → (n : ℕ) → n < 10 ^ 14 → Stands bytes at (columns 14 n) → ⊥
-no_room bytes at short n l s =
+-- where the bytes end there is no room for a field
+pub no_room : (bytes rest : List ℕ) (at : ℕ) → rest ≡ take (length bytes - at) (drop at bytes) → length rest < 14 → FieldAt bytes at None
+no_room bytes rest at e short n l s =
+    let w : length (columns 14 n) ≡ 14 = columns-length 13 n l in
+    let r : length rest ≡ length bytes - at = ap length e ∙ rw (length-take, length-drop) (omega arith) in
+    omega (arith, r, stands-within bytes at (columns 14 n) (omega arith) s)
+
+pub past_end : (bytes : List ℕ) (at : ℕ) → length bytes < at → FieldAt bytes at None
+past_end bytes at short n l s =
     let w : length (columns 14 n) ≡ 14 = columns-length 13 n l in
     omega (arith, stands-within bytes at (columns 14 n) (omega arith) s)
 
-module _ (bytes : List ℕ) (at : ℕ) (room : at + 14 ≤ length bytes) where
+module _ (bytes rest field : List ℕ) (at : ℕ) (of_rest : rest ≡ take (length bytes - at) (drop at bytes)) (of_field : field ≡ take 14 rest) (long : 14 ≤ length rest) where
+  whole : length field ≡ 14
+  whole = ap length of_field ∙ length-take-le 14 rest long
+
+  -- the field is what stands there
+  there : field ≡ take 14 (drop at bytes)
+  there = of_field ∙ ap (take 14) (of_rest ∙ take_all (length bytes - at) (drop at bytes) (omega (arith, length-drop at bytes)))
+
+  stands : (n : ℕ) → n < 10 ^ 14 → Stands bytes at (columns 14 n) → field ≡ columns 14 n
+  stands n l s = there ∙ (rw (columns-length 13 n l) at s)
+
   -- one more byte of the field
-  take_more : (i : ℕ) → i < 14 → take (suc i) (drop at bytes) ≡ take i (drop at bytes) ++ (get_or bytes (at + i) 0 ∷ [])
-  take_more i b = rw (← get_or-drop) (take-suc (drop at bytes) i 0 (omega (arith, length-drop at bytes)))
+  take_more : (i : ℕ) → i < 14 → take (suc i) field ≡ take i field ++ (get_or field i 0 ∷ [])
+  take_more i b = take-suc field i 0 (omega (arith, whole))
+
+  -- the byte of a loop over all but the last
+  front : (i : ℕ) → i < 13 → get_or (take 13 field) i 0 ≡ get_or field i 0
+  front i b = get_or-take 13 field i 0 b
 
   -- one more column that leads to a number
-  pub read_more : (value i next : ℕ) (f : Field) → i < 13 → Read bytes at value i → Next value (get_or bytes (at + i) 0) f → f ≡ Number next
-      → Read bytes at next (i + 1)
+  pub read_more : (value i next : ℕ) (f : Option ℕ) → i < 13 → Read field value i → Next value (get_or (take 13 field) i 0) f → f ≡ Some next
+      → Read field next (i + 1)
   read_more value i next f b r n e =
-      let more : Next value (get_or bytes (at + i) 0) (Number next) = rw e at n in
+      let more : Next value (get_or field i 0) (Some next) = rw (e, front i b) at n in
       record {
         within = omega arith;
         small = rw add-one (omega (arith, more.0, r.small, pow-suc 10 i));
-        held = rw add-one (take_more i (omega arith) ∙ ap (λ bs. bs ++ (get_or bytes (at + i) 0 ∷ [])) r.held ∙ sym (more.1 i));
+        held = rw add-one (take_more i (omega arith) ∙ ap (λ bs. bs ++ (get_or field i 0 ∷ [])) r.held ∙ sym (more.1 i));
       }
 
   -- what the field of a number has before its last column, and there
-  field-parts : (n : ℕ) → n < 10 ^ 14 → Stands bytes at (columns 14 n)
-      → (take 13 (drop at bytes) ≡ lead 13 (n / 10)) × (get_or bytes (at + 13) 0 ≡ digit (n % 10))
-  field-parts n l h =
-      let e : take 14 (drop at bytes) ≡ columns 14 n = rw (columns-length 13 n l) at h in
-      last-alike (take 13 (drop at bytes)) (lead 13 (n / 10)) (get_or bytes (at + 13) 0) (digit (n % 10))
-      (sym (take_more 13 (omega arith)) ∙ e ∙ columns-last 13 n)
+  field-parts : (n : ℕ) → n < 10 ^ 14 → Stands bytes at (columns 14 n) → (take 13 field ≡ lead 13 (n / 10)) × (get_or field 13 0 ≡ digit (n % 10))
+  field-parts n l s =
+      last-alike (take 13 field) (lead 13 (n / 10)) (get_or field 13 0) (digit (n % 10))
+      (sym (take_more 13 (omega arith)) ∙ take_all 14 field (omega (arith, whole)) ∙ stands n l s ∙ columns-last 13 n)
 
   -- the first columns of a field hold a number too
-  leads : (i r n : ℕ) → i + r ≤ 13 → take (i + r) (drop at bytes) ≡ lead (i + r) n → (m : ℕ) × (take i (drop at bytes) ≡ lead i m)
+  leads : (i r n : ℕ) → i + r ≤ 13 → take (i + r) field ≡ lead (i + r) n → (m : ℕ) × (take i field ≡ lead i m)
   leads i zero n l h = (n, rw add-zero at h)
   leads i (suc r) n l h =
       let k : ℕ = i + r in
-      let e : take (suc k) (drop at bytes) ≡ lead (suc k) n = rw add-suc at h in
+      let e : take (suc k) field ≡ lead (suc k) n = rw add-suc at h in
       leads i r (n / 10) (omega arith)
-      (last-alike (take k (drop at bytes)) (lead k (n / 10)) (get_or bytes (at + k) 0) (last_column n)
+      (last-alike (take k field) (lead k (n / 10)) (get_or field k 0) (last_column n)
       (sym (take_more k (omega arith)) ∙ e ∙ lead-last k n)).0
 
   -- where a column leads to no number there is none
-  pub no_field : (value i : ℕ) (f : Field) → i < 13 → Read bytes at value i → Next value (get_or bytes (at + i) 0) f → f ≡ Bad
-      → (n : ℕ) → n < 10 ^ 14 → Stands bytes at (columns 14 n) → ⊥
+  pub no_field : (value i : ℕ) (f : Option ℕ) → i < 13 → Read field value i → Next value (get_or (take 13 field) i 0) f → f ≡ None
+      → FieldAt bytes at None
   no_field value i f b r bad e n l s =
-      let none : Next value (get_or bytes (at + i) 0) Bad = rw e at bad in
+      let none : Next value (get_or field i 0) None = rw (e, front i b) at bad in
       let all : suc i + (13 - suc i) ≡ 13 = omega arith in
       none_found none (leads (suc i) (13 - suc i) (n / 10) (omega arith) (rw all (field-parts n l s).0))
     where
-      none_found : Next value (get_or bytes (at + i) 0) Bad → (m : ℕ) × (take (suc i) (drop at bytes) ≡ lead (suc i) m) → ⊥
+      none_found : Next value (get_or field i 0) None → (m : ℕ) × (take (suc i) field ≡ lead (suc i) m) → ⊥
       none_found none found =
-          none i found.0 (sym found.1 ∙ take_more i (omega arith) ∙ ap (λ bs. bs ++ (get_or bytes (at + i) 0 ∷ [])) r.held)
+          none i found.0 (sym found.1 ∙ take_more i (omega arith) ∙ ap (λ bs. bs ++ (get_or field i 0 ∷ [])) r.held)
 
   -- the last column is a digit
-  pub no-last-digit : (get_or bytes (at + 13) 0 < digit 0) ⊎ (digit 9 < get_or bytes (at + 13) 0)
-      → (n : ℕ) → n < 10 ^ 14 → Stands bytes at (columns 14 n) → ⊥
-  no-last-digit (inl low) n l s = omega (arith, (field-parts n l s).1)
-  no-last-digit (inr high) n l s = omega (arith, (field-parts n l s).1)
+  pub no-last-digit : (digit 0 ≤ get_or field 13 0 → digit 9 < get_or field 13 0) → FieldAt bytes at None
+  no-last-digit other n l s =
+      let last = (field-parts n l s).1 in
+      omega (arith, last, other (omega (arith, last)))
 
-  pub whole-field : (value i : ℕ) → 13 ≤ i → Read bytes at value i → digit 0 ≤ get_or bytes (at + 13) 0 → get_or bytes (at + 13) 0 ≤ digit 9
-      → FieldAt bytes at (Number (value * 10 + (get_or bytes (at + 13) 0 - 48)))
+  pub whole-field : (value i : ℕ) → 13 ≤ i → Read field value i → digit 0 ≤ get_or field 13 0 → get_or field 13 0 ≤ digit 9
+      → FieldAt bytes at (Some (value * 10 + (get_or field 13 0 - 48)))
   whole-field value i b r low high =
-      let n : ℕ = value * 10 + (get_or bytes (at + 13) 0 - 48) in
+      let n : ℕ = value * 10 + (get_or field 13 0 - 48) in
       let thirteen : i ≡ 13 = omega (arith, r.within) in
-      let held : take 13 (drop at bytes) ≡ lead 13 value = rw thirteen at r.held in
+      let held : take 13 field ≡ lead 13 value = rw thirteen at r.held in
       let small : value < 10 ^ 13 = read_small r in
       let d : n / 10 ≡ value = omega arith in
-      let m : digit (n % 10) ≡ get_or bytes (at + 13) 0 = omega arith in
-      (omega arith, rw (columns-length 13 n (omega arith)) (take_more 13 (omega arith) ∙ rw (held, columns-last 13 n, d, m)))
+      let m : digit (n % 10) ≡ get_or field 13 0 = omega arith in
+      let all : field ≡ columns 14 n = sym (take_all 14 field (omega (arith, whole))) ∙ take_more 13 (omega arith) ∙ rw (held, columns-last 13 n, d, m) in
+      (omega arith, rw (columns-length 13 n (omega arith)) (sym there ∙ all))

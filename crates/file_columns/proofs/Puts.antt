@@ -1,16 +1,14 @@
--- Pieces that are written one after another, and a number that is written from its last digit on.
-use mathlib.Core.Path.{◌≡◌, refl, sym, ◌∙◌, ap}
-use Prim.Native.Nat.{ℕ, zero, suc, ◌+◌, ◌-◌, ◌/◌, ◌%◌, ◌^◌, ◌≤◌, ◌<◌}
-use native.Mathlib.Nat.{add-zero, add_assoc, pow-suc}
+-- Pieces that are written one after another.
+use mathlib.Core.Path.{◌≡◌, sym, ◌∙◌, ap}
+use Prim.Native.Nat.{ℕ, suc, ◌+◌, ◌-◌, ◌≤◌, ◌<◌}
+use native.Mathlib.Nat.{add-zero, add_assoc}
 use native.Mathlib.Omega.{arith}
 use mathlib.Core.List.{List, [], ◌∷◌, ◌++◌, append_assoc}
-use lib.ListN.{length, take, drop, set, length-append, length-take, length-drop, length-set, length-replicate, take-append-drop}
+use lib.ListN.{length, take, drop, set, replicate, length-append, length-take, length-drop, length-replicate, take-append-drop}
 use lib.Seq.{take-set-le, drop-set-add, drop-cons, take_at, drop_at, drop-drop, length-take-le}
-use Rattle.model.specs.File.{columns}
-use Rattle.model.proofs.Columns.{columns-length}
-use Rattle.file_columns.specs.Field.{lead, last_column}
+use borrow.Rule.Slice.PartMut.{put_mid}
+use Rattle.model.specs.File.{space, justified}
 use Rattle.file_columns.specs.Put.{written}
-use Rattle.file_columns.proofs.Leads.{columns-last, lead-last}
 
 pub written-nil : (out : List ℕ) (at : ℕ) → written out at [] ≡ out
 unfolding written
@@ -58,62 +56,22 @@ pub set_after : (out : List ℕ) (at : ℕ) (p : List ℕ) (b : ℕ) → at + le
 set_after out at p b room =
     set-one (written out at p) (at + length p) b (rw (written-length out at p (omega arith)) room) ∙ written-more out at p (b ∷ []) (omega arith)
 
-lead-length : (w n : ℕ) → n < 10 ^ w → length (lead w n) ≡ w
-unfolding lead
-lead-length w zero l = length-replicate w _
-lead-length zero (suc n) l = absurd (omega arith)
-lead-length (suc w) (suc n) l = columns-length w (suc n) l
+-- what lies in the middle of a list is written anew
+mid_written : (out : List ℕ) (at k : ℕ) (p : List ℕ) → length p ≡ k → put_mid at k out p ≡ written out at p
+unfolding written
+mid_written out at k p l = ap (λ d. take at out ++ (p ++ d)) (drop-drop k at out ∙ ap (λ i. drop (at + i) out) (sym l))
 
--- ---- a number, from its last digit on
-
--- without its last digit it fits into a column less
-pub shorter : (w n : ℕ) → 1 ≤ w → n < 10 ^ w → n / 10 < 10 ^ (w - 1)
-shorter zero n some l = absurd (omega arith)
-shorter (suc w) n some l = let e : suc w - 1 ≡ w = omega arith in rw e (omega (arith, pow-suc 10 w))
-
--- the columns from i on are written, and those before them are yet to be
-pub record Putting (out₀ : List ℕ) (at i₀ rest₀ : ℕ) (out : List ℕ) (i rest : ℕ) : Type 0 where
-  pub within : i ≤ i₀
-  pub long : length out ≡ length out₀
-  pub small : rest < 10 ^ i
-  pub yet : written out at (lead i rest) ≡ written out₀ at (lead i₀ rest₀)
-
-pub put-none : (out : List ℕ) (at i rest : ℕ) → rest < 10 ^ i → Putting out at i rest out i rest
-put-none out at i rest l = record { within = omega arith; long = refl; small = l; yet = refl }
-
-put-column : (out : List ℕ) (at j rest : ℕ) → rest < 10 ^ suc j → at + j < length out
-    → written (set out (at + j) (last_column rest)) at (lead j (rest / 10)) ≡ written out at (lead (suc j) rest)
-put-column out at j rest l room =
-    let w : length (lead j (rest / 10)) ≡ j = lead-length j (rest / 10) (omega (arith, pow-suc 10 j)) in
-    rw (lead-last j rest) (rw w at (written_byte out at (lead j (rest / 10)) (last_column rest) (rw w room)))
-
-pub put-more : (out₀ : List ℕ) (at i₀ rest₀ : ℕ) (out : List ℕ) (i rest b : ℕ) → 0 < i → at + i₀ < length out₀ → b ≡ last_column rest
-    → Putting out₀ at i₀ rest₀ out i rest → Putting out₀ at i₀ rest₀ (set out (at + (i - 1)) b) (i - 1) (rest / 10)
-put-more out₀ at i₀ rest₀ out i rest b some room e p =
-    let j : ℕ = i - 1 in
-    let one : suc j ≡ i = omega arith in
-    record {
-      within = omega (arith, p.within);
-      long = length-set out (at + j) b ∙ p.long;
-      small = shorter i rest some p.small;
-      yet = ap (λ x. written (set out (at + j) x) at (lead j (rest / 10))) e
-          ∙ put-column out at j rest (rw one p.small) (omega (arith, p.within, p.long)) ∙ ap (λ k. written out at (lead k rest)) one ∙ p.yet;
-    }
-
-lead-empty : lead 0 0 ≡ []
-unfolding lead
-lead-empty = refl
-
--- all columns are written
-pub put_whole : (old : List ℕ) (at w n : ℕ) (out : List ℕ) (i rest : ℕ) → 1 ≤ w → n < 10 ^ w → at + w ≤ length old → i ≤ 0
-    → Putting (set old (at + (w - 1)) (48 + n % 10)) at (w - 1) (n / 10) out i rest
-    → out ≡ written old at (columns w n)
-put_whole old at w n out i rest some l room done p =
-    let k : ℕ = w - 1 in
-    let whole : suc k ≡ w = omega arith in
-    let zero_left : i ≡ 0 = omega arith in
-    let nothing : rest ≡ 0 = omega (arith, rw zero_left at p.small) in
-    let len : length (lead k (n / 10)) ≡ k = lead-length k (n / 10) (shorter w n some l) in
-    sym (written-nil out at) ∙ sym (ap (written out at) (rw (zero_left, nothing) lead-empty)) ∙ p.yet
-    ∙ (rw len at (written_byte old at (lead k (n / 10)) (48 + n % 10) (rw len (omega arith))))
-    ∙ ap (written old at) (sym (columns-last k n) ∙ ap (λ x. columns x n) whole)
+-- spaces, and a text after them
+pub text_put : (out : List ℕ) (at width : ℕ) (text spaces : List ℕ) → length text ≤ width → at + width ≤ length out
+    → spaces ≡ replicate (at + (width - length text) - at) space
+    → put_mid (at + (width - length text)) (at + width - (at + (width - length text))) (put_mid at (at + (width - length text) - at) out spaces) text
+    ≡ written out at (justified width text)
+text_put out at width text spaces few room e =
+    let n : ℕ = width - length text in
+    let m : at + n - at ≡ n = omega arith in
+    let same : spaces ≡ replicate n space = e ∙ ap (λ k. replicate k space) m in
+    let long : length spaces ≡ n = ap length same ∙ length-replicate n space in
+    mid_written _ (at + n) (at + width - (at + n)) text (omega arith)
+    ∙ ap (λ xs. written xs (at + n) text) (mid_written out at (at + n - at) spaces (long ∙ sym m))
+    ∙ (rw long at (written-more out at spaces text (rw long (omega arith))))
+    ∙ ap (λ xs. written out at (xs ++ text)) same

@@ -10,13 +10,10 @@ use Rattle.model.specs.Run.{Task}
 use Rattle.model.specs.File.{line, draw_lines, first_numbers, Readable, Stands, AcceptedAt}
 use Rattle.model.proofs.Pieces.{stands-within, fitting-nil, fitting-cons, Fitting, line-length, same_line}
 use Rattle.model.proofs.Tasks.{Placed, placed, stands, file-length, first-fitting, count_at, end_at}
+use Rattle.std.proofs.Common.{Option, Some, None, Ok, Err}
+use Rattle.model.specs.declared.refusal.Refusal.TheVariants.{File}
 use Rattle.file_job.specs.declared.FirstNumbers.{FirstNumbers}
-use Rattle.file_job.specs.declared.FirstLine.{FirstLine}
-use Rattle.file_job.specs.declared.FirstLine.TheVariants as F
-use Rattle.file_job.specs.declared.Draws.{Draws}
-use Rattle.file_job.specs.declared.Draws.TheVariants as D
 use Rattle.file_job.specs.declared.Header.{Header}
-use Rattle.file_job.specs.declared.TaskRead.TheVariants as R
 use Rattle.file_job.specs.Reading.{first_list, InRange, FirstAt, TablesAt, IsDraws, DrawsAt, CheckedAt}
 
 -- the first line's numbers of a task
@@ -76,14 +73,14 @@ in-range-fitting f r =
 pub table-bytes : (l : ℕ) → l ≤ 80 → l * (14 * l + 1) ≤ 89680
 table-bytes l h = let rest : 14 * l + 1 ≤ 1121 = omega arith in mul-le-mul h rest
 
-module _ (bytes : List ℕ) (at : ℕ) (g : FirstLine) (read : FirstAt bytes at g) where
-  pub no-first : g ≡ F.Bad → CheckedAt bytes at (R.Refused 14)
+module _ (bytes : List ℕ) (at : ℕ) (g : Option FirstNumbers) (read : FirstAt bytes at g) where
+  pub no-first : g ≡ None → CheckedAt bytes at (Err File)
   no-first e =
-      let none : FirstAt bytes at F.Bad = rw e at read in
+      let none : FirstAt bytes at None = rw e at read in
       (refl, λ to T a. none (first_numbers_of T) (in-range T a.2) (placed T a.2 bytes at a.0).first)
 
-  module _ (f : FirstNumbers) (e : g ≡ F.Numbers f) where
-    there : FirstAt bytes at (F.Numbers f)
+  module _ (f : FirstNumbers) (e : g ≡ Some f) where
+    there : FirstAt bytes at (Some f)
     there = rw e at read
 
     pub first-within : at + 113 ≤ length bytes
@@ -109,7 +106,7 @@ module _ (bytes : List ℕ) (at : ℕ) (g : FirstLine) (read : FirstAt bytes at 
           limit = ap (λ ns. get_or ns 7 0) same i;
         }
 
-    pub over-limit : (f.vehicles ≤ 16 → f.stops ≤ 64 → f.locations ≤ 80 → ⊥) → CheckedAt bytes at (R.Refused 14)
+    pub over-limit : (f.vehicles ≤ 16 → f.stops ≤ 64 → f.locations ≤ 80 → ⊥) → CheckedAt bytes at (Err File)
     over-limit wrong = (
       refl,
       λ to T a.
@@ -118,7 +115,7 @@ module _ (bytes : List ℕ) (at : ℕ) (g : FirstLine) (read : FirstAt bytes at 
           wrong (rw s r.vehicles) (rw s r.stops) (rw s r.locations),
     )
 
-    pub no-tables : (TablesAt bytes (at + 113) f.vehicles f.stops f.locations → ⊥) → CheckedAt bytes at (R.Refused 14)
+    pub no-tables : (TablesAt bytes (at + 113) f.vehicles f.stops f.locations → ⊥) → CheckedAt bytes at (Err File)
     no-tables none = (
       refl,
       λ to T a.
@@ -132,14 +129,14 @@ module _ (bytes : List ℕ) (at : ℕ) (g : FirstLine) (read : FirstAt bytes at 
           })),
     )
 
-    pub no-draws-there : (d : Draws) → DrawsAt bytes (count_at at f.vehicles f.stops f.locations) d → d ≡ D.Bad
-        → CheckedAt bytes at (R.Refused 14)
+    pub no-draws-there : (d : Option ℕ) → DrawsAt bytes (count_at at f.vehicles f.stops f.locations) d → d ≡ None
+        → CheckedAt bytes at (Err File)
     no-draws-there d found b = (
       refl,
       λ to T a.
           let r = a.2 in
           let same = same_first to T a in
-          let none : DrawsAt bytes (count_at at f.vehicles f.stops f.locations) D.Bad = rw b at found in
+          let none : DrawsAt bytes (count_at at f.vehicles f.stops f.locations) None = rw b at found in
           none T.draws record { some = r.some_draw; few = r.draws; small = r.draw_numbers }
           (rw same (placed T r bytes at a.0).draws),
     )
@@ -200,7 +197,7 @@ module _ (bytes : List ℕ) (at : ℕ) (g : FirstLine) (read : FirstAt bytes at 
             draws = rw (← vehicles-read, ← stops-read) s;
           }
 
-      task-checked : Stands bytes (count_at at f.vehicles f.stops f.locations) (draw_lines ds) → CheckedAt bytes at (R.Read (header_with at f (length ds)))
+      task-checked : Stands bytes (count_at at f.vehicles f.stops f.locations) (draw_lines ds) → CheckedAt bytes at (Ok (header_with at f (length ds)))
       task-checked s = (
         task_read,
         (
@@ -221,8 +218,8 @@ module _ (bytes : List ℕ) (at : ℕ) (g : FirstLine) (read : FirstAt bytes at 
             },
       )
 
-    module _ (x : ℕ) (d : Draws) (found : DrawsAt bytes (count_at at f.vehicles f.stops f.locations) d) (c : d ≡ D.Count x) where
-      counted : DrawsAt bytes (count_at at f.vehicles f.stops f.locations) (D.Count x)
+    module _ (x : ℕ) (d : Option ℕ) (found : DrawsAt bytes (count_at at f.vehicles f.stops f.locations) d) (c : d ≡ Some x) where
+      counted : DrawsAt bytes (count_at at f.vehicles f.stops f.locations) (Some x)
       counted = rw c at found
 
       pub few-draws : x ≤ 1024
@@ -230,5 +227,5 @@ module _ (bytes : List ℕ) (at : ℕ) (g : FirstLine) (read : FirstAt bytes at 
 
       pub all-checked : (small : (f.vehicles ≤ 16) × (f.stops ≤ 64) × (f.locations ≤ 80))
           → TablesAt bytes (at + 113) f.vehicles f.stops f.locations
-          → CheckedAt bytes at (R.Read (header_with at f x))
+          → CheckedAt bytes at (Ok (header_with at f x))
       all-checked small t = rw (← counted.1) (task-checked small t counted.0 counted.2 counted.3)

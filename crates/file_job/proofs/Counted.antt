@@ -7,8 +7,8 @@ use lib.ListN.{length, get_or}
 use Rattle.model.specs.File.{line, lines, draw_lines, NoneOver, Stands}
 use Rattle.model.proofs.Pieces.{none-over-nil, none-over-cons}
 use Rattle.model.proofs.Tasks.{draw-parts, draws-stand}
+use Rattle.std.proofs.Common.{Some, None}
 use Rattle.file_columns.specs.Field.{NumberAt}
-use Rattle.file_job.specs.declared.Draws.TheVariants as D
 use Rattle.file_lines.specs.Standing.{LineAt, LinesAt}
 use Rattle.file_job.specs.Reading.{IsDraws, DrawsAt}
 use Rattle.file_lines.proofs.Known.{one_number}
@@ -34,19 +34,19 @@ module _ (bytes : List ℕ) (at : ℕ) where
     draws-lines : LinesAt bytes (at + 15) (length ds) 1
     draws-lines = record { numbers = ds; count = omega arith; small = d.small; stand = parts.1 }
 
-  pub no-count : (LineAt bytes at 1 → ⊥) → DrawsAt bytes at D.Bad
+  pub no-count : (LineAt bytes at 1 → ⊥) → DrawsAt bytes at None
   no-count none ds d s = none (draws-count ds d s)
 
-  pub no-draws : (x : ℕ) → NumberAt bytes at x → (LinesAt bytes (at + 15) x 1 → ⊥) → DrawsAt bytes at D.Bad
+  pub no-draws : (x : ℕ) → NumberAt bytes at x → (LinesAt bytes (at + 15) x 1 → ⊥) → DrawsAt bytes at None
   no-draws x n none ds d s = none (rw (draws-counted ds d s x n) (draws-lines ds d s))
 
-  pub wrong-count : (x : ℕ) → NumberAt bytes at x → (1 ≤ x → x ≤ 1024 → ⊥) → DrawsAt bytes at D.Bad
+  pub wrong-count : (x : ℕ) → NumberAt bytes at x → (1 ≤ x → x ≤ 1024 → ⊥) → DrawsAt bytes at None
   wrong-count x n wrong ds d s =
       let e = draws-counted ds d s x n in
       wrong (omega (arith, d.some)) (omega (arith, d.few))
 
   pub draws-whole : (x : ℕ) → LineAt bytes at 1 → NumberAt bytes at x → 1 ≤ x → x ≤ 1024 → LinesAt bytes (at + 15) x 1
-      → DrawsAt bytes at (D.Count x)
+      → DrawsAt bytes at (Some x)
   draws-whole x h n some few k =
       let ds = k.numbers in
       let e : x ≡ length ds = omega (arith, k.count) in

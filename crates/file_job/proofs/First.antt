@@ -8,11 +8,9 @@ use lib.ListN.{length, get_or}
 use Rattle.model.specs.File.{columns, fields, line, NoneOver, Stands}
 use Rattle.model.proofs.Columns.{columns-length}
 use Rattle.model.proofs.Pieces.{join-at, part_at, none-over-nil, none-over-cons, fitting, fields-length}
-use Rattle.file_columns.specs.declared.Field.{Field}
-use Rattle.file_columns.specs.declared.Field.TheVariants.{Number, Bad}
+use Rattle.std.proofs.Common.{Option, Some, None}
 use Rattle.file_columns.specs.Field.{FieldAt, NumberAt}
 use Rattle.file_job.specs.declared.FirstNumbers.{FirstNumbers}
-use Rattle.file_job.specs.declared.FirstLine.TheVariants as F
 use Rattle.file_lines.specs.Standing.{FieldsAt, LineAt}
 use Rattle.file_job.specs.Reading.{first_list, InRange, FirstAt}
 use Rattle.file_lines.proofs.Checks.{line-start, line-end}
@@ -55,20 +53,20 @@ module _ (f : FirstNumbers) (r : InRange f) where
       )
 
 module _ (bytes : List ℕ) (at : ℕ) where
-  pub no-first-room : length bytes < at + 113 → FirstAt bytes at F.Bad
+  pub no-first-room : length bytes < at + 113 → FirstAt bytes at None
   no-first-room short f r s =
       let p = first-parts f r bytes at s in
       omega (arith, (line-end bytes (at + 84) 2 p.2).0)
 
-  pub no-first-five : (FieldsAt bytes at 5 → ⊥) → FirstAt bytes at F.Bad
+  pub no-first-five : (FieldsAt bytes at 5 → ⊥) → FirstAt bytes at None
   no-first-five none f r s = none (first-parts f r bytes at s).0
 
-  pub no-first-missed : (g : Field) → FieldAt bytes (at + 70) g → g ≡ Bad → FirstAt bytes at F.Bad
+  pub no-first-missed : (g : Option ℕ) → FieldAt bytes (at + 70) g → g ≡ None → FirstAt bytes at None
   no-first-missed g read e f r s =
-      let nothing : FieldAt bytes (at + 70) Bad = rw e at read in
+      let nothing : FieldAt bytes (at + 70) None = rw e at read in
       nothing f.missed r.missed (first-parts f r bytes at s).1
 
-  pub no-first-two : (LineAt bytes (at + 84) 2 → ⊥) → FirstAt bytes at F.Bad
+  pub no-first-two : (LineAt bytes (at + 84) 2 → ⊥) → FirstAt bytes at None
   no-first-two none f r s = none (first-parts f r bytes at s).2
 
 five : (P : ℕ → Type 0) → P 0 → P 1 → P 2 → P 3 → P 4 → (i : ℕ) → i < 5 → P i
@@ -85,14 +83,14 @@ two P a b (suc zero) l = b
 two P a b (suc (suc i)) l = absurd (omega arith)
 
 -- the whole line, of the numbers that were read from it
-pub first-whole : (bytes : List ℕ) (at : ℕ) (f : FirstNumbers) (g : Field) → FieldsAt bytes at 5
-    → FieldAt bytes (at + 70) g → g ≡ Number f.missed → LineAt bytes (at + 84) 2
+pub first-whole : (bytes : List ℕ) (at : ℕ) (f : FirstNumbers) (g : Option ℕ) → FieldsAt bytes at 5
+    → FieldAt bytes (at + 70) g → g ≡ Some f.missed → LineAt bytes (at + 84) 2
     → NumberAt bytes at f.vehicles → NumberAt bytes (at + 14) f.stops → NumberAt bytes (at + 28) f.locations
     → NumberAt bytes (at + 42) f.linear → NumberAt bytes (at + 56) f.quadratic
     → NumberAt bytes (at + 84) f.smoothing → NumberAt bytes (at + 98) f.limit
-    → FirstAt bytes at (F.Numbers f)
+    → FirstAt bytes at (Some f)
 first-whole bytes at f g h read e k n0 n1 n2 n3 n4 n6 n7 =
-    let there : FieldAt bytes (at + 70) (Number f.missed) = rw e at read in
+    let there : FieldAt bytes (at + 70) (Some f.missed) = rw e at read in
     let p : at + 84 + 14 ≡ at + 98 = omega arith in
     let q : at + 70 + 14 ≡ at + 84 = omega arith in
     let a : h.numbers ≡ first_five f =

@@ -1,16 +1,12 @@
 -- What is read from a file: its first line, its draws, and the whole task.
-use Rattle.std.specs.Prelude.{◌≡◌, ℕ, ◌+◌, ◌*◌, ◌^◌, ◌≤◌, ◌<◌, List, [], ◌∷◌, length, take}
+use Rattle.std.specs.Prelude.{◌≡◌, ℕ, ◌+◌, ◌*◌, ◌^◌, ◌≤◌, ◌<◌, List, [], ◌∷◌, length, take, Option, Some, None, Result, Ok, Err}
+use Rattle.model.specs.declared.refusal.Refusal.{Refusal}
+use Rattle.model.specs.Numbers.{number_of}
 use Rattle.model.specs.Job.{vehicle_count, stop_count}
 use Rattle.model.specs.Run.{Task}
 use Rattle.model.specs.File.{Readable, line, draw_lines, largest_number, NoneOver, Stands, Accepted, AcceptedAt}
 use Rattle.file_job.specs.declared.FirstNumbers.{FirstNumbers}
-use Rattle.file_job.specs.declared.FirstLine.{FirstLine}
-use Rattle.file_job.specs.declared.FirstLine.TheVariants as F
-use Rattle.file_job.specs.declared.Draws.{Draws}
-use Rattle.file_job.specs.declared.Draws.TheVariants as D
 use Rattle.file_job.specs.declared.Header.{Header}
-use Rattle.file_job.specs.declared.TaskRead.{TaskRead}
-use Rattle.file_job.specs.declared.TaskRead.TheVariants as R
 use Rattle.file_lines.specs.Standing.{LinesAt, over}
 
 -- ---- the first line
@@ -32,9 +28,9 @@ pub record InRange (f : FirstNumbers) : Type 0 where
   pub limit : f.limit ≤ largest_number
 
 -- the first line that stands there, or that none does
-abbrev pub FirstAt : List ℕ → ℕ → FirstLine → Type 0
-FirstAt bytes at (F.Numbers f) = InRange f × Stands bytes at (line 14 (first_list f))
-FirstAt bytes at F.Bad = (f : FirstNumbers) → InRange f → Stands bytes at (line 14 (first_list f)) → ⊥
+abbrev pub FirstAt : List ℕ → ℕ → Option FirstNumbers → Type 0
+FirstAt bytes at (Some f) = InRange f × Stands bytes at (line 14 (first_list f))
+FirstAt bytes at None = (f : FirstNumbers) → InRange f → Stands bytes at (line 14 (first_list f)) → ⊥
 
 -- ---- the tables: the vehicles', the stops' and the locations' lines, from a position on
 
@@ -52,9 +48,9 @@ pub record IsDraws (ds : List ℕ) : Type 0 where
   pub small : NoneOver ds
 
 -- so many draws stand there after their count, or there are none such
-abbrev pub DrawsAt : List ℕ → ℕ → Draws → Type 0
-DrawsAt bytes at (D.Count d) = (ds : List ℕ) × (length ds ≡ d) × IsDraws ds × Stands bytes at (draw_lines ds)
-DrawsAt bytes at D.Bad = (ds : List ℕ) → IsDraws ds → Stands bytes at (draw_lines ds) → ⊥
+abbrev pub DrawsAt : List ℕ → ℕ → Option ℕ → Type 0
+DrawsAt bytes at (Some d) = (ds : List ℕ) × (length ds ≡ d) × IsDraws ds × Stands bytes at (draw_lines ds)
+DrawsAt bytes at None = (ds : List ℕ) → IsDraws ds → Stands bytes at (draw_lines ds) → ⊥
 
 -- ---- a task
 
@@ -73,9 +69,9 @@ header_of T end =
     }
 
 -- the header of the one task whose file stands there, or refusal 14 where none does
-abbrev pub CheckedAt : List ℕ → ℕ → TaskRead → Type 0
-CheckedAt bytes at (R.Read h) = (T : Task) × AcceptedAt bytes at h.end T × (h ≡ header_of T h.end)
-CheckedAt bytes at (R.Refused number) = (number ≡ 14) × ((to : ℕ) (T : Task) → AcceptedAt bytes at to T → ⊥)
+abbrev pub CheckedAt : List ℕ → ℕ → Result Header Refusal → Type 0
+CheckedAt bytes at (Ok h) = (T : Task) × AcceptedAt bytes at h.end T × (h ≡ header_of T h.end)
+CheckedAt bytes at (Err refusal) = (number_of refusal ≡ 14) × ((to : ℕ) (T : Task) → AcceptedAt bytes at to T → ⊥)
 
 -- the lists that are lent for a task
 pub record Buffers : Type 0 where
@@ -106,7 +102,7 @@ loaded T m =
 
 -- the file of a task with this header stands there, and the lists have room for it
 pub record Loadable (bytes : List ℕ) (at : ℕ) (h : Header) (m : Buffers) : Type 0 where
-  pub checked : CheckedAt bytes at (R.Read h)
+  pub checked : CheckedAt bytes at (Ok h)
   pub room : Room m
 
 -- the lists of the task with this header whose file stands there are laid over those that are lent
@@ -114,14 +110,14 @@ abbrev pub Loads : List ℕ → ℕ → Header → Buffers → Buffers → Type 
 Loads bytes at h old new = (T : Task) → AcceptedAt bytes at h.end T → h ≡ header_of T h.end → new ≡ loaded T old
 
 -- reading at a position: the header of the one task whose file stands there, and its lists; or refusal 14 where none does, and all lists unchanged
-abbrev pub ReadAt : List ℕ → ℕ → Buffers → Buffers → TaskRead → Type 0
-ReadAt bytes at old new (R.Read h) = (T : Task) × AcceptedAt bytes at h.end T × (h ≡ header_of T h.end) × (new ≡ loaded T old)
-ReadAt bytes at old new (R.Refused number) = (number ≡ 14) × (new ≡ old) × ((to : ℕ) (T : Task) → AcceptedAt bytes at to T → ⊥)
+abbrev pub ReadAt : List ℕ → ℕ → Buffers → Buffers → Result Header Refusal → Type 0
+ReadAt bytes at old new (Ok h) = (T : Task) × AcceptedAt bytes at h.end T × (h ≡ header_of T h.end) × (new ≡ loaded T old)
+ReadAt bytes at old new (Err refusal) = (number_of refusal ≡ 14) × (new ≡ old) × ((to : ℕ) (T : Task) → AcceptedAt bytes at to T → ⊥)
 
 -- reading a whole file
-abbrev pub ReadWhole : List ℕ → Buffers → Buffers → TaskRead → Type 0
-ReadWhole bytes old new (R.Read h) = (T : Task) × Accepted bytes T × (h ≡ header_of T (length bytes)) × (new ≡ loaded T old)
-ReadWhole bytes old new (R.Refused number) = (number ≡ 14) × (new ≡ old) × ((T : Task) → Accepted bytes T → ⊥)
+abbrev pub ReadWhole : List ℕ → Buffers → Buffers → Result Header Refusal → Type 0
+ReadWhole bytes old new (Ok h) = (T : Task) × Accepted bytes T × (h ≡ header_of T (length bytes)) × (new ≡ loaded T old)
+ReadWhole bytes old new (Err refusal) = (number_of refusal ≡ 14) × (new ≡ old) × ((T : Task) → Accepted bytes T → ⊥)
 
 -- the lists begin with those of a task of this header
 pub record Holds (h : Header) (m : Buffers) (T : Task) : Type 0 where

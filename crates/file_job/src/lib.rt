@@ -5,8 +5,7 @@
 ghost use Rattle.file_lines.specs.Standing.{Says};
 ghost use Rattle.file_job.specs.Reading.{FirstAt, TablesAt, DrawsAt, CheckedAt, buffers, Room, Loadable, Loads, ReadAt, ReadWhole};
 
-use file_columns::Field;
-use model::Prices;
+use model::{Prices, Refusal};
 
 // The numbers of a file's first line.
 #[derive(Clone, Copy)]
@@ -19,19 +18,6 @@ pub struct FirstNumbers {
     pub missed: u64,
     pub smoothing: u32,
     pub limit: u32,
-}
-
-#[derive(Clone, Copy)]
-pub enum FirstLine {
-    Numbers(FirstNumbers),
-    Bad,
-}
-
-// How many draws a file has.
-#[derive(Clone, Copy)]
-pub enum Draws {
-    Count(usize),
-    Bad,
 }
 
 // A task without its lists: how long they are (`vehicles` counts pairs), the other numbers, and the position after its file.
@@ -47,32 +33,21 @@ pub struct Header {
     pub end: usize,
 }
 
-#[derive(Clone, Copy)]
-pub enum TaskRead {
-    Read(Header),
-    Refused(u32),
-}
-
 // The first line of a file, which is 113 bytes long: no position in it wraps once there is room for it.
-fn read_first_line(bytes: &[u8], at: usize) -> FirstLine
+fn read_first_line(bytes: &[u8], at: usize) -> Option<FirstNumbers>
     ensures { FirstAt bytes.now at result }
 {
-    if bytes.len() < 113 {
-        return FirstLine::Bad;
-    }
-    if bytes.len() - 113 < at {
-        return FirstLine::Bad;
+    if bytes.get(at..)?.len() < 113 {
+        return None;
     }
     if !file_lines::check_fields(bytes, at, 5) {
-        return FirstLine::Bad;
+        return None;
     }
-    let Field::Number(missed) = file_columns::read_field(bytes, at + 70) else {
-        return FirstLine::Bad;
-    };
+    let missed = file_columns::read_field(bytes, at + 70)?;
     if !file_lines::check_line(bytes, at + 84, 2) {
-        return FirstLine::Bad;
+        return None;
     }
-    FirstLine::Numbers(FirstNumbers {
+    Some(FirstNumbers {
         vehicles: file_columns::number_at(bytes, at),
         stops: file_columns::number_at(bytes, at + 14),
         locations: file_columns::number_at(bytes, at + 28),
@@ -96,59 +71,56 @@ fn check_tables(bytes: &[u8], at: usize, v: usize, n: usize, l: usize) -> bool
         return false;
     }
     let distances = stops + n * 15;
-    if !file_lines::check_lines(bytes, distances, l, l) {
-        return false;
-    }
-    true
+    file_lines::check_lines(bytes, distances, l, l)
 }
 
-// The draws: a line with their count, and one draw a line.
-fn check_draws(bytes: &[u8], at: usize) -> Draws
+// How many draws there are: a line with their count, and one draw a line.
+fn check_draws(bytes: &[u8], at: usize) -> Option<usize>
     ensures { DrawsAt bytes.now at result }
 {
     if !file_lines::check_line(bytes, at, 1) {
-        return Draws::Bad;
+        return None;
     }
     let count = file_columns::number_at(bytes, at) as usize;
     if count < 1 {
-        return Draws::Bad;
+        return None;
     }
     if 1024 < count {
-        return Draws::Bad;
+        return None;
     }
     if !file_lines::check_lines(bytes, at + 15, count, 1) {
-        return Draws::Bad;
+        return None;
     }
-    Draws::Count(count)
+    Some(count)
 }
 
 // The task whose file stands at a position, without its lists, which are only checked.
-fn check_at(bytes: &[u8], at: usize) -> TaskRead
+fn check_at(bytes: &[u8], at: usize) -> Result<Header, Refusal>
     ensures { CheckedAt bytes.now at result }
 {
-    let FirstLine::Numbers(first) = read_first_line(bytes, at) else {
-        return TaskRead::Refused(14);
+    let Some(first) = read_first_line(bytes, at) else {
+        return Err(Refusal::File);
     };
     let v = first.vehicles as usize;
     let n = first.stops as usize;
     let l = first.locations as usize;
     if 16 < v {
-        return TaskRead::Refused(14);
+        return Err(Refusal::File);
     }
     if 64 < n {
-        return TaskRead::Refused(14);
+        return Err(Refusal::File);
     }
     if 80 < l {
-        return TaskRead::Refused(14);
+        return Err(Refusal::File);
     }
     if !check_tables(bytes, at + 113, v, n, l) {
-        return TaskRead::Refused(14);
+        return Err(Refusal::File);
     }
     let count = at + 113 + v * 29 + n * 15 + l * (14 * l + 1);
-    let Draws::Count(draws) = check_draws(bytes, count) else {
-        return TaskRead::Refused(14);
+    let Some(draws) = check_draws(bytes, count) else {
+        return Err(Refusal::File);
     };
-    TaskRead::Read(Header {
+    Ok(Header {
         vehicles: v,
         stops: n,
         locations: first.locations,
@@ -200,17 +172,15 @@ pub fn read_at(
     stops: &mut [u32],
     distances: &mut [u32],
     draws: &mut [u32],
-) -> TaskRead
+) -> Result<Header, Refusal>
     requires { Room (buffers vehicles.old stops.old distances.old draws.old) }
     ensures { ReadAt bytes.now at
         (buffers vehicles.old stops.old distances.old draws.old)
         (buffers vehicles.new stops.new distances.new draws.new) result }
 {
-    let TaskRead::Read(h) = check_at(bytes, at) else {
-        return TaskRead::Refused(14);
-    };
+    let h = check_at(bytes, at)?;
     fill_at(bytes, at, h, vehicles, stops, distances, draws);
-    TaskRead::Read(h)
+    Ok(h)
 }
 
 // The task whose file the bytes are, with nothing before or after it.
@@ -220,19 +190,17 @@ pub fn read_file(
     stops: &mut [u32],
     distances: &mut [u32],
     draws: &mut [u32],
-) -> TaskRead
+) -> Result<Header, Refusal>
     requires { Room (buffers vehicles.old stops.old distances.old draws.old) }
     ensures { ReadWhole bytes.now
         (buffers vehicles.old stops.old distances.old draws.old)
         (buffers vehicles.new stops.new distances.new draws.new) result }
 {
-    let TaskRead::Read(h) = check_at(bytes, 0) else {
-        return TaskRead::Refused(14);
-    };
+    let h = check_at(bytes, 0)?;
     let end = h.end;
     if end != bytes.len() {
-        return TaskRead::Refused(14);
+        return Err(Refusal::File);
     }
     fill_at(bytes, 0, h, vehicles, stops, distances, draws);
-    TaskRead::Read(h)
+    Ok(h)
 }

@@ -1,18 +1,18 @@
 -- Fields and lines that are checked one after another.
-use mathlib.Core.Path.{◌≡◌, refl, ◌∙◌, ap}
+use mathlib.Core.Path.{◌≡◌, refl, sym, ◌∙◌, ap}
 use Prim.Native.Nat.{ℕ, zero, suc, ◌+◌, ◌*◌, ◌^◌, ◌≤◌, ◌<◌}
 use native.Mathlib.Nat.{mul-le-mul_right}
 use native.Mathlib.Omega.{arith}
 use mathlib.Core.Bool.{Bool, true, false, not}
 use mathlib.Core.List.{List, [], ◌∷◌, ◌++◌}
-use borrow.Author.Tests.{not-true, not-false}
+use borrow.Author.Tests.{not-true, not-false, eqb-true, eq-eqb}
 use lib.ListN.{length, get_or, take, drop, length-append, length-drop}
 use lib.Seq.{length-take-le}
 use Rattle.model.specs.File.{line_feed, columns, fields, line, lines, largest_number, Stands}
-use Rattle.model.proofs.Columns.{columns-length}
+use lib.Dec.{eqb}
+use Rattle.model.proofs.Columns.{tested, columns-length}
 use Rattle.model.proofs.Pieces.{stands-within, join-at, part_at, byte-stands, stands-byte, none-over-nil, none-over-cons, none-over-append, none-over-take, none-over-drop, fitting, fields-length, fields-one, fields-append, field_at, lines-length, lines_snoc, line_at}
-use Rattle.file_columns.specs.declared.Field.{Field}
-use Rattle.file_columns.specs.declared.Field.TheVariants.{Number, Bad}
+use Rattle.std.proofs.Common.{Option, Some, None}
 use Rattle.file_columns.specs.Field.{FieldAt}
 use Rattle.file_columns.proofs.Numbers.{only}
 use Rattle.file_lines.specs.Standing.{Says, FieldsAt, LineAt, LinesAt}
@@ -31,10 +31,10 @@ module _ (bytes : List ℕ) where
   unfolding fields
   fields-none at = record { numbers = []; count = refl; small = none-over-nil; stand = refl }
 
-  pub fields-more : (at i next n : ℕ) (f : Field) → next ≡ at + 14 * i → FieldsAt bytes at i → FieldAt bytes next f → f ≡ Number n
+  pub fields-more : (at i next n : ℕ) (f : Option ℕ) → next ≡ at + 14 * i → FieldsAt bytes at i → FieldAt bytes next f → f ≡ Some n
       → n ≤ largest_number → FieldsAt bytes at (i + 1)
   fields-more at i next n f p h g e l =
-      let there : FieldAt bytes next (Number n) = rw e at g in
+      let there : FieldAt bytes next (Some n) = rw e at g in
       let w : length (fields 14 h.numbers) ≡ 14 * length h.numbers = fields-length h.numbers (fitting h.small) in
       let q : at + 14 * length h.numbers ≡ next = omega (arith, h.count) in
       record {
@@ -45,20 +45,20 @@ module _ (bytes : List ℕ) where
       }
 
   -- a field that was read ends where the bytes end, or before
-  pub field-within : (at n : ℕ) (f : Field) → FieldAt bytes at f → f ≡ Number n → at + 14 ≤ length bytes
+  pub field-within : (at n : ℕ) (f : Option ℕ) → FieldAt bytes at f → f ≡ Some n → at + 14 ≤ length bytes
   field-within at n f g e =
-      let there : FieldAt bytes at (Number n) = rw e at g in
+      let there : FieldAt bytes at (Some n) = rw e at g in
       let w : length (columns 14 n) ≡ 14 = columns-length 13 n there.0 in
       omega (arith, stands-within bytes at (columns 14 n) (omega arith) there.1)
 
   -- one field that is bad, or too large, and there are not so many
-  pub fields-bad : (at i k next : ℕ) (f : Field) → next ≡ at + 14 * i → i < k → FieldAt bytes next f → f ≡ Bad → FieldsAt bytes at k → ⊥
+  pub fields-bad : (at i k next : ℕ) (f : Option ℕ) → next ≡ at + 14 * i → i < k → FieldAt bytes next f → f ≡ None → FieldsAt bytes at k → ⊥
   fields-bad at i k next f p l g e h =
-      let nothing : FieldAt bytes next Bad = rw e at g in
+      let nothing : FieldAt bytes next None = rw e at g in
       let fit = fitting h.small in
       nothing (get_or h.numbers i 0) (fit.fits i) (rw p (field_at bytes at h.numbers fit h.stand i (omega (arith, h.count))))
 
-  pub fields-large : (at i k next n : ℕ) (f : Field) → next ≡ at + 14 * i → i < k → FieldAt bytes next f → f ≡ Number n → largest_number < n
+  pub fields-large : (at i k next n : ℕ) (f : Option ℕ) → next ≡ at + 14 * i → i < k → FieldAt bytes next f → f ≡ Some n → largest_number < n
       → FieldsAt bytes at k → ⊥
   fields-large at i k next n f p l g e over h =
       let m = get_or h.numbers i 0 in
@@ -103,6 +103,17 @@ module _ (bytes : List ℕ) where
 
   pub line-end : (at k : ℕ) → LineAt bytes at k → (at + 14 * k < length bytes) × (get_or bytes (at + 14 * k) 0 ≡ line_feed)
   line-end at k h = stands-byte bytes (at + 14 * k) line_feed (line-parts at k h).1
+
+  -- what is said of a line, once its fields stand there, by the byte after them
+  pub line-told : (at k b : ℕ) → FieldsAt bytes at k → at + 14 * k < length bytes → get_or bytes (at + 14 * k) 0 ≡ b
+      → Says (eqb b line_feed) (LineAt bytes at k)
+  line-told at k b h l e =
+      tested (eqb b line_feed)
+      (λ t. rw t (line-whole at k h l (e ∙ eqb-true b line_feed t)))
+      (λ f. rw f (λ line.
+      let t : true ≡ false = sym (eq-eqb b line_feed (sym e ∙ (line-end at k line).1)) ∙ f in
+      let z : ◌≡◌ {A = ℕ} 0 1 = cc in
+      absurd (omega arith)))
 
   -- ---- lines
 

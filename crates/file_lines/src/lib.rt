@@ -3,23 +3,19 @@
 
 ghost use Rattle.file_lines.specs.Standing.{Says, FieldsAt, LineAt, LinesAt, Fillable, Filled};
 
-use file_columns::Field;
+// The largest number that a list may hold.
+const LARGEST: u64 = 4294967295;
 
-// Whether so many numbers up to 4294967295 stand in fields from a position on.
+// Whether so many numbers up to the largest stand in fields from a position on.
 pub fn check_fields(bytes: &[u8], at: usize, count: usize) -> bool
     ensures { Says result (FieldsAt bytes.now at count) }
 {
     let mut next = at;
-    let mut i: usize = 0;
-    while i < count {
-        let Field::Number(n) = file_columns::read_field(bytes, next) else {
-            return false;
-        };
-        if 4294967295 < n {
-            return false;
+    for _i in 0..count {
+        match file_columns::read_field(bytes, next) {
+            Some(n) if n <= LARGEST => next += 14,
+            _ => return false,
         }
-        next += 14;
-        i += 1;
     }
     true
 }
@@ -31,14 +27,10 @@ pub fn check_line(bytes: &[u8], at: usize, count: usize) -> bool
     if !check_fields(bytes, at, count) {
         return false;
     }
-    let end = at + 14 * count;
-    if bytes.len() <= end {
-        return false;
+    match bytes.get(at + 14 * count) {
+        Some(byte) => *byte == b'\n',
+        None => false,
     }
-    if bytes[end] != b'\n' {
-        return false;
-    }
-    true
 }
 
 // Whether so many lines of so many numbers each stand there.
@@ -46,13 +38,11 @@ pub fn check_lines(bytes: &[u8], at: usize, lines: usize, count: usize) -> bool
     ensures { Says result (LinesAt bytes.now at lines count) }
 {
     let mut next = at;
-    let mut i: usize = 0;
-    while i < lines {
+    for _i in 0..lines {
         if !check_line(bytes, next, count) {
             return false;
         }
         next += 14 * count + 1;
-        i += 1;
     }
     true
 }
@@ -62,11 +52,8 @@ pub fn fill_lines(bytes: &[u8], at: usize, lines: usize, count: usize, list: &mu
     requires { Fillable bytes.now at lines count list.old }
     ensures { Filled bytes.now at lines count list.old list.new }
 {
-    let total = lines * count;
-    let mut i: usize = 0;
-    while i < total {
+    for i in 0..lines * count {
         // after i numbers and the line feeds among them
         list[i] = file_columns::number_at(bytes, at + (14 * i + i / count));
-        i += 1;
     }
 }

@@ -13,7 +13,7 @@ use Rattle.model.specs.declared.Totals.{Totals}
 use Rattle.model.specs.declared.Solved.TheVariants.{Ran}
 use Rattle.model.specs.Whole.{amount}
 use Rattle.model.specs.Plan.{Plan, decode, vehicle_of, is_placed, Sizes}
-use Rattle.model.specs.File.{space, line_feed, dash, justified, columns, fields, line, printed_stop, printed_run, printed_refusal, printed}
+use Rattle.model.specs.File.{line_feed, dash, justified, columns, fields, line, printed_stop, printed_run, printed_refusal, printed}
 use Rattle.model.proofs.Columns.{tested, columns-length}
 use Rattle.model.proofs.Lists.{up_from-append}
 use Rattle.model.proofs.Pieces.{for_each-append}
@@ -24,17 +24,7 @@ use Rattle.std.specs.Prelude.{Option, Some, None}
 use Rattle.solution.specs.Places.{place_of}
 use Rattle.file_columns.specs.Put.{written}
 use Rattle.file_printing.specs.Printing.{printed_vehicle, printed_stops, printed_totals, Prints}
-use Rattle.file_columns.proofs.Puts.{written-nil, written-more, set-one, set_after}
-
-pub dashed : (out : List ℕ) (at : ℕ) → at + 4 ≤ length out
-    → set (set (set (set out at space) (at + 1) space) (at + 2) space) (at + 3) dash ≡ written out at (justified 4 (dash ∷ []))
-dashed out at room =
-    rw (
-      set-one out at space (omega arith),
-      set_after out at (space ∷ []) space (omega arith),
-      set_after out at (space ∷ space ∷ []) space (omega arith),
-      set_after out at (space ∷ space ∷ space ∷ []) dash (omega arith),
-    )
+use Rattle.file_columns.proofs.Puts.{written-nil, written-more, set_after}
 
 -- ---- the vehicle of a stop
 

@@ -4,22 +4,12 @@
 ghost use Rattle.std.specs.Prelude.{◌≡◌, cond, [], ◌∷◌, ◌+◌, ◌*◌, ◌≤◌, ◌<◌, length};
 ghost use Rattle.model.specs.declared.Solved.TheVariants.{Ran};
 ghost use Rattle.model.specs.Plan.{decode};
+ghost use Rattle.model.specs.Numbers.{number_of};
 ghost use Rattle.model.specs.File.{dash, justified, printed_stop, printed_refusal, printed};
 ghost use Rattle.file_columns.specs.Put.{written};
 ghost use Rattle.file_printing.specs.Printing.{printed_vehicle, printed_stops, printed_totals, Priced, Printable, Prints};
 
-use model::Totals;
-
-// A dash in 4 columns.
-fn put_dash(out: &mut [u8], at: usize)
-    requires { at + 4 ≤ length out.old }
-    ensures { out.new ≡ written out.old at (justified 4 (dash ∷ [])) }
-{
-    out[at] = b' ';
-    out[at + 1] = b' ';
-    out[at + 2] = b' ';
-    out[at + 3] = b'-';
-}
+use model::{Refusal, Totals};
 
 // The vehicle of a stop, or a dash where it has none.
 fn put_vehicle(out: &mut [u8], at: usize, plan: &[u32], v: usize, n: usize, stop: u32)
@@ -32,7 +22,7 @@ fn put_vehicle(out: &mut [u8], at: usize, plan: &[u32], v: usize, n: usize, stop
             file_columns::put_number(out, at, 4, k as u64);
         }
         None => {
-            put_dash(out, at);
+            file_columns::put_text(out, at, 4, b"-");
         }
     }
 }
@@ -53,21 +43,12 @@ fn put_stops(out: &mut [u8], plan: &[u32], v: usize, n: usize)
     requires { Printable v n plan.now out.old 0 (n * 9) }
     ensures { out.new ≡ written out.old 0 (printed_stops (decode v plan.now) n) }
 {
-    let mut i: usize = 0;
-    while i < n {
+    for i in 0..n {
         put_stop(out, i * 9, plan, v, n, i as u32);
-        i += 1;
     }
 }
 
-// 1 for settled, 0 for cut.
-fn flag(settled: bool) -> u64
-    ensures { result ≡ cond settled 1 0 }
-{
-    if settled { 1 } else { 0 }
-}
-
-// The line of the five numbers of a run.
+// The line of the five numbers of a run, the last of which is 1 for settled and 0 for cut.
 pub fn put_totals(out: &mut [u8], at: usize, t: Totals)
     requires at_in_bounds { at + 101 ≤ length out.old }
     requires priced { Priced t }
@@ -77,7 +58,7 @@ pub fn put_totals(out: &mut [u8], at: usize, t: Totals)
     file_columns::put_number(out, at + 20, 20, whole::to_whole(t.end));
     file_columns::put_number(out, at + 40, 20, t.rounds as u64);
     file_columns::put_number(out, at + 60, 20, t.improving as u64);
-    file_columns::put_number(out, at + 80, 20, flag(t.settled));
+    file_columns::put_number(out, at + 80, 20, t.settled as u64);
     out[at + 100] = b'\n';
 }
 
@@ -93,11 +74,11 @@ pub fn print_run(t: Totals, plan: &[u32], v: usize, n: usize, out: &mut [u8]) ->
 }
 
 // What is printed for a refusal.
-pub fn print_refusal(number: u32, out: &mut [u8]) -> usize
+pub fn print_refusal(refusal: Refusal, out: &mut [u8]) -> usize
     requires { 21 ≤ length out.old }
-    ensures { Prints out.old out.new result (printed_refusal number) }
+    ensures { Prints out.old out.new result (printed_refusal (number_of refusal)) }
 {
-    file_columns::put_number(out, 0, 20, number as u64);
+    file_columns::put_number(out, 0, 20, u32::from(refusal) as u64);
     out[20] = b'\n';
     21
 }

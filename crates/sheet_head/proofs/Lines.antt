@@ -10,10 +10,11 @@ use Rattle.model.specs.File.{line, Stands}
 use Rattle.model.proofs.Sufficient.{largest-at}
 use Rattle.model.proofs.Pieces.{none-over-nil, stands-within, part_at, join-at, part, join, Fitting, fitting, fitting-nil, fitting-cons, line-length, same_line}
 use Rattle.file_lines.specs.Standing.{over}
+use Rattle.std.proofs.Common.{Option, Some, None, lit≤}
 use Rattle.sheet_head.specs.declared.Listed.{Listed}
-use Rattle.sheet_head.specs.declared.ListRead.{ListRead}
-use Rattle.sheet_head.specs.declared.ListRead.TheVariants as L
-use Rattle.sheet_head.specs.declared.HeadRead.TheVariants as H
+use Rattle.sheet_head.specs.declared.Call.{Call}
+use Rattle.sheet_head.specs.declared.Call.TheVariants.{Weigh, StartPlan, TwoOpt, Rebuild, Exhaustive, Pruned, Solve, Arrive, Cancel, View, MoveStop, Roadworks}
+use Rattle.sheet_head.specs.Numbered.{number_of_call}
 use Rattle.sheet_head.specs.Form.{last_call, most_numbers, has_given, least_given, most_given, has_plan, line_if, head_of, ListFor, longest_plan}
 use Rattle.sheet_head.specs.Reading.{Listing, ListAt, ListIf, Fits, Laid, CallAt, HeadOf, HeadAt}
 use Rattle.sheet_head.proofs.Lists.{same-list}
@@ -32,9 +33,9 @@ module _ (bytes : List ℕ) (at least most : ℕ) where
     pub counted : l.count ≡ length numbers
     pub end : l.end ≡ at + length (line_if b numbers)
 
-  pub taken : (b : Bool) (a : ListRead) → ListIf b bytes at least most a → (l : Listed) → a ≡ L.Read l → Taken b l
+  pub taken : (b : Bool) (a : Option Listed) → ListIf b bytes at least most a → (l : Listed) → a ≡ Some l → Taken b l
   taken true a h l e =
-      let k : ListAt bytes at least most (L.Read l) = rw e at h in
+      let k : ListAt bytes at least most (Some l) = rw e at h in
       let g = k.1 in
       record {
         numbers = k.0;
@@ -44,7 +45,7 @@ module _ (bytes : List ℕ) (at least most : ℕ) where
         end = k.3 ∙ ap (λ x. at + x) (sym (line-length k.0 (fitting g.small)));
       }
   taken false a h l e =
-      let z : L.Read (record { count = 0; end = at }) ≡ L.Read l = sym h ∙ e in
+      let z : Some (record { count = 0; end = at }) ≡ Some l = sym h ∙ e in
       let c : record { count = 0; end = at } ≡ l = cc in
       record {
         numbers = [];
@@ -71,13 +72,13 @@ module _ (bytes : List ℕ) (at least most : ℕ) where
       w ns (sym c) (rw f none-over-nil) (λ k. absurd (omega arith))
 
   -- or none such stands there
-  pub missing : (b : Bool) (a : ListRead) → ListIf b bytes at least most a → a ≡ L.Bad
+  pub missing : (b : Bool) (a : Option Listed) → ListIf b bytes at least most a → a ≡ None
       → (known ns : List ℕ) → ListFor b least most known ns → Stands bytes at (line_if b ns) → ⊥
   missing true a h e known ns f s =
-      let k : ListAt bytes at least most L.Bad = rw e at h in
+      let k : ListAt bytes at least most None = rw e at h in
       k ns (listing known ns f s)
   missing false a h e known ns f s =
-      let z : L.Read (record { count = 0; end = at }) ≡ L.Bad = sym h ∙ e in
+      let z : Some (record { count = 0; end = at }) ≡ None = sym h ∙ e in
       let w : ◌≡◌ {A = ℕ} 0 1 = cc in
       omega arith
 
@@ -137,98 +138,113 @@ module _ (bytes : List ℕ) (at : ℕ) where
   same-call call n l k s t =
       ap (λ ns. get_or ns 0 0) (same_line bytes at (n ∷ []) (call ∷ []) (one-fitting n k) (one-fitting call l) refl t s)
 
-  pub no_number : (call : ℕ) (given plan : List ℕ) → CallAt bytes at call → call < 1 → HeadAt bytes at given plan given plan H.Bad
+  -- a call's number is not 0
+  some : (who : Call) → 1 ≤ number_of_call who
+  some Weigh = lit≤ tt
+  some StartPlan = lit≤ tt
+  some TwoOpt = lit≤ tt
+  some Rebuild = lit≤ tt
+  some Exhaustive = lit≤ tt
+  some Pruned = lit≤ tt
+  some Solve = lit≤ tt
+  some Arrive = lit≤ tt
+  some Cancel = lit≤ tt
+  some View = lit≤ tt
+  some MoveStop = lit≤ tt
+  some Roadworks = lit≤ tt
+
+  pub no_number : (call : ℕ) (given plan : List ℕ) → CallAt bytes at call → call < 1 → HeadAt bytes at given plan given plan None
   no_number call given plan c z = (
     refl,
     refl,
     λ n stops numbers known h. c.none (omega arith) n h.first h.last (head-parts n stops numbers h.last h.stand).number,
   )
 
-  module _ (call : ℕ) (c : CallAt bytes at call) (some : 1 ≤ call) where
+  module _ (who : Call) (c : CallAt bytes at (number_of_call who)) where
     pub number-within : at + 15 ≤ length bytes
     number-within =
-        let w = call_length call c.last in
-        omega (arith, stands-within bytes at (line 14 (call ∷ [])) (omega arith) (c.there some))
+        let w = call_length (number_of_call who) c.last in
+        omega (arith, stands-within bytes at (line 14 ((number_of_call who) ∷ [])) (omega arith) (c.there (some who)))
 
     -- a head that stands there is of the call that was read
-    of-call : (n : ℕ) (stops numbers known : List ℕ) → HeadOf bytes at n stops numbers known → HeadOf bytes at call stops numbers known
+    of-call : (n : ℕ) (stops numbers known : List ℕ) → HeadOf bytes at n stops numbers known → HeadOf bytes at (number_of_call who) stops numbers known
     of-call n stops numbers known h =
         subst (λ x. HeadOf bytes at x stops numbers known)
-        (same-call call n c.last h.last (c.there some) (head-parts n stops numbers h.last h.stand).number) h
+        (same-call (number_of_call who) n c.last h.last (c.there (some who)) (head-parts n stops numbers h.last h.stand).number) h
 
-    module _ (given plan : List ℕ) (a : ListRead) (read : ListIf (has_given call) bytes (at + 15) (least_given call) (most_given call) a) where
-      pub no-given : a ≡ L.Bad → HeadAt bytes at given plan given plan H.Bad
+    module _ (given plan : List ℕ) (a : Option Listed) (read : ListIf (has_given (number_of_call who)) bytes (at + 15) (least_given (number_of_call who)) (most_given (number_of_call who)) a) where
+      pub no-given : a ≡ None → HeadAt bytes at given plan given plan None
       no-given e = (
         refl,
         refl,
         λ n stops numbers known h.
             let k = of-call n stops numbers known h in
-            missing bytes (at + 15) (least_given call) (most_given call) (has_given call) a read e [] stops k.stops
-            (head-parts call stops numbers c.last k.stand).stops,
+            missing bytes (at + 15) (least_given (number_of_call who)) (most_given (number_of_call who)) (has_given (number_of_call who)) a read e [] stops k.stops
+            (head-parts (number_of_call who) stops numbers c.last k.stand).stops,
       )
 
-      module _ (g : Listed) (e : a ≡ L.Read g) where
-        stops_taken : Taken bytes (at + 15) (least_given call) (most_given call) (has_given call) g
-        stops_taken = taken bytes (at + 15) (least_given call) (most_given call) (has_given call) a read g e
+      module _ (g : Listed) (e : a ≡ Some g) where
+        stops_taken : Taken bytes (at + 15) (least_given (number_of_call who)) (most_given (number_of_call who)) (has_given (number_of_call who)) g
+        stops_taken = taken bytes (at + 15) (least_given (number_of_call who)) (most_given (number_of_call who)) (has_given (number_of_call who)) a read g e
 
         pub stops-fit : 8 ≤ length given → Fits bytes (at + 15) g.count given
         stops-fit l =
             let t = stops_taken in
-            taken-fits bytes (at + 15) (least_given call) (most_given call) (has_given call) t.numbers given g.count t.form t.stand t.counted
-            (le_trans (few-given call) l)
+            taken-fits bytes (at + 15) (least_given (number_of_call who)) (most_given (number_of_call who)) (has_given (number_of_call who)) t.numbers given g.count t.form t.stand t.counted
+            (le_trans (few-given (number_of_call who)) l)
 
-        module _ (b : ListRead) (next : ListIf (has_plan call) bytes g.end 0 longest_plan b) where
-          pub no-plan : b ≡ L.Bad → HeadAt bytes at given plan given plan H.Bad
+        module _ (b : Option Listed) (next : ListIf (has_plan (number_of_call who)) bytes g.end 0 longest_plan b) where
+          pub no-plan : b ≡ None → HeadAt bytes at given plan given plan None
           no-plan f = (
             refl,
             refl,
             λ n stops numbers known h.
                 let t = stops_taken in
                 let k = of-call n stops numbers known h in
-                let p = head-parts call stops numbers c.last k.stand in
+                let p = head-parts (number_of_call who) stops numbers c.last k.stand in
                 let same : stops ≡ t.numbers =
-                same_numbers bytes (at + 15) (least_given call) (most_given call) (has_given call) [] stops t.numbers k.stops t.form p.stops t.stand in
-                let q : plan_at at call stops ≡ g.end = ap (plan_at at call) same ∙ sym t.end in
-                missing bytes g.end 0 longest_plan (has_plan call) b next f known numbers k.numbers
-                (subst (λ x. Stands bytes x (line_if (has_plan call) numbers)) q p.numbers),
+                same_numbers bytes (at + 15) (least_given (number_of_call who)) (most_given (number_of_call who)) (has_given (number_of_call who)) [] stops t.numbers k.stops t.form p.stops t.stand in
+                let q : plan_at at (number_of_call who) stops ≡ g.end = ap (plan_at at (number_of_call who)) same ∙ sym t.end in
+                missing bytes g.end 0 longest_plan (has_plan (number_of_call who)) b next f known numbers k.numbers
+                (subst (λ x. Stands bytes x (line_if (has_plan (number_of_call who)) numbers)) q p.numbers),
           )
 
-          module _ (l : Listed) (f : b ≡ L.Read l) where
-            numbers_taken : Taken bytes g.end 0 longest_plan (has_plan call) l
-            numbers_taken = taken bytes g.end 0 longest_plan (has_plan call) b next l f
+          module _ (l : Listed) (f : b ≡ Some l) where
+            numbers_taken : Taken bytes g.end 0 longest_plan (has_plan (number_of_call who)) l
+            numbers_taken = taken bytes g.end 0 longest_plan (has_plan (number_of_call who)) b next l f
 
             pub numbers_fit : longest_plan ≤ length plan → Fits bytes g.end l.count plan
             numbers_fit k =
                 let u = numbers_taken in
-                taken-fits bytes g.end 0 longest_plan (has_plan call) u.numbers plan l.count u.form u.stand u.counted k
+                taken-fits bytes g.end 0 longest_plan (has_plan (number_of_call who)) u.numbers plan l.count u.form u.stand u.counted k
 
             pub head_read : (given' plan' : List ℕ) → Laid bytes (at + 15) g.count given given' → Laid bytes g.end l.count plan plan'
-                → HeadAt bytes at given plan given' plan' (H.Read (record { call = call; given = g.count; plan = l.count; end = l.end }))
+                → HeadAt bytes at given plan given' plan' (Some (record { call = who; given = g.count; plan = l.count; end = l.end }))
             head_read given' plan' v w =
                 let t = stops_taken in
                 let u = numbers_taken in
-                let parts : Parts call t.numbers u.numbers =
+                let parts : Parts (number_of_call who) t.numbers u.numbers =
                 record {
-                  number = c.there some;
+                  number = c.there (some who);
                   stops = t.stand;
-                  numbers = subst (λ x. Stands bytes x (line_if (has_plan call) u.numbers)) t.end u.stand;
+                  numbers = subst (λ x. Stands bytes x (line_if (has_plan (number_of_call who)) u.numbers)) t.end u.stand;
                 } in
                 record {
                   stops = t.numbers;
                   numbers = u.numbers;
                   lines = record {
-                    first = some;
+                    first = some who;
                     last = c.last;
                     stops = t.form;
                     numbers = u.form;
-                    stand = head-stands call t.numbers u.numbers c.last parts;
+                    stand = head-stands (number_of_call who) t.numbers u.numbers c.last parts;
                   };
-                  end = u.end ∙ ap (λ x. x + length (line_if (has_plan call) u.numbers)) t.end
-                      ∙ sym (head-length call t.numbers u.numbers c.last);
+                  end = u.end ∙ ap (λ x. x + length (line_if (has_plan (number_of_call who)) u.numbers)) t.end
+                      ∙ sym (head-length (number_of_call who) t.numbers u.numbers c.last);
                   count_given = t.counted;
                   count_plan = u.counted;
-                  same_given = taken-laid bytes (at + 15) (least_given call) (most_given call) (has_given call) t.numbers given given' g.count t.form t.stand t.counted v;
-                  same_plan = taken-laid bytes g.end 0 longest_plan (has_plan call) u.numbers plan plan' l.count u.form u.stand u.counted w;
+                  same_given = taken-laid bytes (at + 15) (least_given (number_of_call who)) (most_given (number_of_call who)) (has_given (number_of_call who)) t.numbers given given' g.count t.form t.stand t.counted v;
+                  same_plan = taken-laid bytes g.end 0 longest_plan (has_plan (number_of_call who)) u.numbers plan plan' l.count u.form u.stand u.counted w;
                 }
 
   -- two heads that stand there are the same, but for a plan that has no line

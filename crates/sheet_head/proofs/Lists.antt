@@ -10,12 +10,10 @@ use lib.Seq.{drop-cons, take_all}
 use Rattle.model.specs.File.{space, line_feed, digit, digits, columns, line, lines, Stands}
 use Rattle.model.proofs.Columns.{tested, by_digits, digits-small, digits_more, columns-length}
 use Rattle.model.proofs.Pieces.{stands-within, fitting, field_at, lines-one, same_line}
-use Rattle.file_columns.specs.declared.Field.{Field}
-use Rattle.file_columns.specs.declared.Field.TheVariants.{Number, Bad}
 use Rattle.file_columns.specs.Field.{FieldAt}
 use Rattle.file_lines.specs.Standing.{LineAt, Fillable, Filled}
 use Rattle.file_lines.proofs.Checks.{line-start, line-end}
-use Rattle.sheet_head.specs.declared.ListRead.TheVariants as L
+use Rattle.std.proofs.Common.{Option, Some, None}
 use Rattle.sheet_head.specs.Reading.{Listing, CountAt, ListAt, Fits, Laid}
 
 -- ---- a field does not begin with a line feed
@@ -54,21 +52,21 @@ module _ (bytes : List ℕ) (at : ℕ) where
   listed {ns = ns} h = record { numbers = ns; count = refl; small = h.small; stand = h.stand }
 
   -- where a field stands the line goes on, and where none does it ends
-  pub goes_on : (next i n : ℕ) (f : Field) → next ≡ at + 14 * i → FieldAt bytes next f → f ≡ Number n
+  pub goes_on : (next i n : ℕ) (f : Option ℕ) → next ≡ at + 14 * i → FieldAt bytes next f → f ≡ Some n
       → {least most : ℕ} (ns : List ℕ) → Listing bytes at least most ns → i ≤ length ns → i + 1 ≤ length ns
   goes_on next i n f p g e ns h l =
       tested (ltb i (length ns)) (λ b. omega (arith, ltb-true i (length ns) b)) λ b.
       let same : i ≡ length ns = omega (arith, ltb-false i (length ns) b) in
-      let there : FieldAt bytes next (Number n) = rw e at g in
+      let there : FieldAt bytes next (Some n) = rw e at g in
       let q : next ≡ at + 14 * length ns = omega arith in
       absurd (field-begin bytes (at + 14 * length ns) n there.0 (rw q at there.1) (line-end bytes at (length ns) (listed h)).1)
 
-  pub ends : (next i : ℕ) (f : Field) → next ≡ at + 14 * i → FieldAt bytes next f → f ≡ Bad
+  pub ends : (next i : ℕ) (f : Option ℕ) → next ≡ at + 14 * i → FieldAt bytes next f → f ≡ None
       → {least most : ℕ} (ns : List ℕ) → Listing bytes at least most ns → i ≤ length ns → length ns ≡ i
   ends next i f p g e ns h l =
       tested (ltb i (length ns))
       (λ b.
-      let there : FieldAt bytes next Bad = rw e at g in
+      let there : FieldAt bytes next None = rw e at g in
       let fit = fitting h.small in
       let k = line-start bytes at (length ns) (listed h) in
       absurd (there (get_or ns i 0) (fit.fits i) (rw p (field_at bytes at ns fit k i (ltb-true i (length ns) b)))))
@@ -94,11 +92,11 @@ module _ (bytes : List ℕ) (at : ℕ) where
 -- ---- a line that was counted and checked
 
 module _ (bytes : List ℕ) (at least most count : ℕ) (counted : CountAt bytes at most count) where
-  pub too_few : count < least → ListAt bytes at least most L.Bad
+  pub too_few : count < least → ListAt bytes at least most None
   too_few l ns h =
       omega (arith, h.some, counted.count ns (record { some = omega arith; few = h.few; small = h.small; stand = h.stand }))
 
-  pub no_line : (LineAt bytes at count → ⊥) → ListAt bytes at least most L.Bad
+  pub no_line : (LineAt bytes at count → ⊥) → ListAt bytes at least most None
   no_line none ns h =
       let c = counted.count ns (record { some = omega arith; few = h.few; small = h.small; stand = h.stand }) in
       none (record { numbers = ns; count = c; small = h.small; stand = h.stand })
@@ -107,7 +105,7 @@ module _ (bytes : List ℕ) (at least most count : ℕ) (counted : CountAt bytes
     pub line-within : at + (14 * count + 1) ≤ length bytes
     line-within = omega (arith, (line-end bytes at count there).0)
 
-    pub list_read : least ≤ count → ListAt bytes at least most (L.Read (record { count = count; end = at + (14 * count + 1) }))
+    pub list_read : least ≤ count → ListAt bytes at least most (Some (record { count = count; end = at + (14 * count + 1) }))
     list_read l = (
       there.numbers,
       record { some = omega (arith, there.count); few = omega (arith, there.count, counted.few); small = there.small; stand = there.stand },

@@ -1,12 +1,10 @@
 -- What is read of a sheet before its job file.
-use Rattle.std.specs.Prelude.{◌≡◌, ℕ, ◌+◌, ◌*◌, ◌≤◌, Bool, true, false, List, [], ◌∷◌, length}
+use Rattle.std.specs.Prelude.{◌≡◌, ℕ, ◌+◌, ◌*◌, ◌≤◌, Bool, true, false, List, [], ◌∷◌, length, Option, Some, None}
 use Rattle.model.specs.File.{line, NoneOver, Stands}
 use Rattle.file_lines.specs.Standing.{LineAt, over}
-use Rattle.sheet_head.specs.declared.ListRead.{ListRead}
-use Rattle.sheet_head.specs.declared.ListRead.TheVariants as L
+use Rattle.sheet_head.specs.declared.Listed.{Listed}
 use Rattle.sheet_head.specs.declared.Head.{Head}
-use Rattle.sheet_head.specs.declared.HeadRead.{HeadRead}
-use Rattle.sheet_head.specs.declared.HeadRead.TheVariants as H
+use Rattle.sheet_head.specs.Numbered.{number_of_call}
 use Rattle.sheet_head.specs.Form.{last_call, has_given, least_given, most_given, has_plan, head_of, ListFor, longest_plan}
 
 -- ---- a line of numbers
@@ -24,15 +22,15 @@ pub record CountAt (bytes : List ℕ) (at most r : ℕ) : Type 0 where
   pub count : (ns : List ℕ) → Listing bytes at 0 most ns → length ns ≡ r
 
 -- so many numbers stand in the line, which ends there; or none such stands there
-abbrev pub ListAt : List ℕ → ℕ → ℕ → ℕ → ListRead → Type 0
-ListAt bytes at least most (L.Read l) =
+abbrev pub ListAt : List ℕ → ℕ → ℕ → ℕ → Option Listed → Type 0
+ListAt bytes at least most (Some l) =
     (ns : List ℕ) × Listing bytes at least most ns × (l.count ≡ length ns) × (l.end ≡ at + (14 * length ns + 1))
-ListAt bytes at least most L.Bad = (ns : List ℕ) → Listing bytes at least most ns → ⊥
+ListAt bytes at least most None = (ns : List ℕ) → Listing bytes at least most ns → ⊥
 
 -- the same where there is such a line; otherwise nothing is read
-abbrev pub ListIf : Bool → List ℕ → ℕ → ℕ → ℕ → ListRead → Type 0
+abbrev pub ListIf : Bool → List ℕ → ℕ → ℕ → ℕ → Option Listed → Type 0
 ListIf true bytes at least most a = ListAt bytes at least most a
-ListIf false bytes at least most a = a ≡ L.Read (record { count = 0; end = at })
+ListIf false bytes at least most a = a ≡ Some (record { count = 0; end = at })
 
 -- so many numbers stand in a line, and a list has room for them; for none there may be no line
 pub record Fits (bytes : List ℕ) (at count : ℕ) (list : List ℕ) : Type 0 where
@@ -69,15 +67,15 @@ pub record Lent (given plan : List ℕ) : Type 0 where
 pub record HeadHolds (bytes : List ℕ) (at : ℕ) (k : Head) (given plan given' plan' : List ℕ) : Type 0 where
   pub stops : List ℕ
   pub numbers : List ℕ
-  pub lines : HeadOf bytes at k.call stops numbers []
-  pub end : k.end ≡ at + length (head_of k.call stops numbers)
+  pub lines : HeadOf bytes at (number_of_call k.call) stops numbers []
+  pub end : k.end ≡ at + length (head_of (number_of_call k.call) stops numbers)
   pub count_given : k.given ≡ length stops
   pub count_plan : k.plan ≡ length numbers
   pub same_given : given' ≡ over stops given
   pub same_plan : plan' ≡ over numbers plan
 
 -- so, or none such stand there, and the lists that are lent are as they were
-abbrev pub HeadAt : List ℕ → ℕ → List ℕ → List ℕ → List ℕ → List ℕ → HeadRead → Type 0
-HeadAt bytes at given plan given' plan' (H.Read k) = HeadHolds bytes at k given plan given' plan'
-HeadAt bytes at given plan given' plan' H.Bad =
+abbrev pub HeadAt : List ℕ → ℕ → List ℕ → List ℕ → List ℕ → List ℕ → Option Head → Type 0
+HeadAt bytes at given plan given' plan' (Some k) = HeadHolds bytes at k given plan given' plan'
+HeadAt bytes at given plan given' plan' None =
     (given' ≡ given) × (plan' ≡ plan) × ((call : ℕ) (stops numbers known : List ℕ) → HeadOf bytes at call stops numbers known → ⊥)

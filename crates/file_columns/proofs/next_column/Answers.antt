@@ -3,20 +3,20 @@ use native.Mathlib.Omega.{arith}
 use Rattle.file_columns.proofs.Leads.{space-column, digit-column, no-column}
 use Rattle.file_columns.proofs.next_column.Goals as goal
 
-pub returns-then-value-eq0 : goal.returns-then-value-eq0
-returns-then-value-eq0 c = space-column _ _ c.if-value-eq0.true c.if-byte-eq32.true
-
-pub returns-then-byte-eq32 : goal.returns-then-byte-eq32
-returns-then-byte-eq32 c = no-column _ _ (λ b. omega arith) (λ low high. omega arith)
-
-pub returns-then-byte-lt48 : goal.returns-then-byte-lt48
-returns-then-byte-lt48 c = no-column _ _ (λ b. omega arith) (λ low high. omega arith)
-
-pub returns-then-byte-gt57 : goal.returns-then-byte-gt57
-returns-then-byte-gt57 c = no-column _ _ (λ b. omega arith) (λ low high. omega arith)
+pub returns-in-32 : goal.returns-in-32
+returns-in-32 c = space-column _ _ c.if-value-eq0.true c.in-32.is
 
 pub returns-then-next-eq0 : goal.returns-then-next-eq0
-returns-then-next-eq0 c = no-column _ _ (λ b. omega arith) (λ low high. c.if-next-eq0.true)
+returns-then-next-eq0 c = no-column _ _ (λ b. omega arith) (λ low high. omega arith)
 
-pub returns : goal.returns
-returns c = digit-column _ _ (omega arith) (omega arith) (omega arith)
+pub returns-else-next-eq0 : goal.returns-else-next-eq0
+returns-else-next-eq0 c = digit-column _ _ (omega arith) (omega arith) (omega arith)
+
+pub returns-in_default : goal.returns-in_default
+returns-in_default c = no-column _ _ (λ b. omega arith) (λ low high. omega arith)
+
+pub returns-in_default-2 : goal.returns-in_default-2
+returns-in_default-2 c = no-column _ _ (λ b. omega arith) (λ low high. omega arith)
+
+pub returns-in_default-3 : goal.returns-in_default-3
+returns-in_default-3 c = no-column _ _ (λ b. omega arith) (λ low high. omega arith)

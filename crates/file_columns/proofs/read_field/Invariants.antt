@@ -1,10 +1,6 @@
--- The columns before the last hold the value, and the last column is a digit.
-use Prim.Native.Nat.{◌-◌}
+-- The columns before the last hold the value.
 use Rattle.file_columns.proofs.Leads.{Read}
 use Rattle.file_columns.proofs.read_field.Given as goal
 
-abbrev pub invariant-loop-i : goal.invariant-loop-i
-invariant-loop-i l = Read l.bytes l.at l.value l.i
-
-abbrev pub decreases-loop-i : goal.decreases-loop-i
-decreases-loop-i l = 13 - l.i
+abbrev pub invariant-loop-byte : goal.invariant-loop-byte
+invariant-loop-byte l = Read l.field l.value l.byte-index

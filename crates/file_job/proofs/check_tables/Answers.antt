@@ -1,5 +1,6 @@
 use mathlib.Core.Path.{ap}
-use mathlib.Core.Bool.{not}
+use mathlib.Core.Bool.{Bool, true, false, not}
+use Rattle.file_lines.specs.Standing.{Says}
 use native.Mathlib.Omega.{arith}
 use borrow.Author.Rules.{rules}
 use Rattle.file_lines.proofs.Checks.{said, denied, lines_end}
@@ -33,13 +34,18 @@ overflow_add-distances c =
     let called = c.check_lines-2 in
     omega (arith, lines_end _ _ _ _ first (search rules) (said called.result (ap not c.if-not-check_lines-2.false) called.ensures))
 
-pub returns-then-not-check_lines-3 : goal.returns-then-not-check_lines-3
-returns-then-not-check_lines-3 c t = denied c.check_lines-3.result (ap not c.if-not-check_lines-3.true) c.check_lines-3.ensures t.distances
+-- what is said of a statement is said of one that holds exactly where it does
+told : {P Q : Type 0} → (P → Q) → (Q → P) → (b : Bool) → Says b P → Says b Q
+told f g true s = f s
+told f g false s = λ q. s (g q)
 
 pub returns : goal.returns
 returns c =
+    told
+    (λ d.
     record {
       vehicles = said c.check_lines.result (ap not c.if-not-check_lines.false) c.check_lines.ensures;
       stops = said c.check_lines-2.result (ap not c.if-not-check_lines-2.false) c.check_lines-2.ensures;
-      distances = said c.check_lines-3.result (ap not c.if-not-check_lines-3.false) c.check_lines-3.ensures;
-    }
+      distances = d;
+    })
+    (λ t. t.distances) c.check_lines-3.result c.check_lines-3.ensures

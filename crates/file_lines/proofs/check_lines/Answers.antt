@@ -1,12 +1,9 @@
-use mathlib.Core.Path.{ap}
-use mathlib.Core.Bool.{not}
-use mathlib.Core.Path.{◌≡◌}
-use native.Mathlib.Omega.{arith}
+use Rattle.std.proofs.Common.{◌≡◌, ap, not, arith}
 use Rattle.file_lines.proofs.Checks.{said, denied, line-end, lines_none, lines_more, lines-bad}
 use Rattle.file_lines.proofs.check_lines.Goals as goal
 
 pub loop-i-init : goal.loop-i-init
-loop-i-init c = (omega arith, omega arith, lines_none _ _ _)
+loop-i-init c = (omega arith, lines_none _ _ _)
 
 pub returns-then-not-check_line : goal.returns-then-not-check_line
 returns-then-not-check_line c =
@@ -33,9 +30,9 @@ pub loop-i-preserved : goal.loop-i-preserved
 loop-i-preserved c =
     let called = c.check_line in
     let inv = c.loop-i.invariant in
-    (omega arith, omega arith, lines_more _ _ _ _ _ inv.0 inv.2 (said called.result (ap not c.if-not-check_line.false) called.ensures))
+    (omega arith, lines_more _ _ _ _ _ inv.0 inv.1 (said called.result (ap not c.if-not-check_line.false) called.ensures))
 
 pub returns : goal.returns
 returns c =
-    let all : c.loop-i.i ≡ c.args.lines = omega arith in
-    rw all at c.loop-i.invariant.2
+    let all : c.loop-i._i ≡ c.args.lines = omega arith in
+    rw all at c.loop-i.invariant.1

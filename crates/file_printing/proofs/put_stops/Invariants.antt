@@ -1,13 +1,8 @@
-use mathlib.Core.Path.{◌≡◌}
-use Prim.Native.Nat.{◌-◌, ◌≤◌}
-use lib.ListN.{length}
+use Rattle.std.proofs.Common.{◌≡◌}
 use Rattle.model.specs.Plan.{decode}
 use Rattle.file_columns.specs.Put.{written}
 use Rattle.file_printing.specs.Printing.{printed_stops}
 use Rattle.file_printing.proofs.put_stops.Given as goal
 
 abbrev pub invariant-loop-i : goal.invariant-loop-i
-invariant-loop-i l = (l.i ≤ l.n) × (length l.out ≡ length l.initial.out) × (l.out ≡ written l.initial.out 0 (printed_stops (decode l.v l.plan) l.i))
-
-abbrev pub decreases-loop-i : goal.decreases-loop-i
-decreases-loop-i l = l.n - l.i
+invariant-loop-i l = l.out ≡ written l.initial.out 0 (printed_stops (decode l.v l.plan) l.i)

@@ -23,4 +23,4 @@ returns-in-Some c =
 pub returns-in-None : goal.returns-in-None
 returns-in-None c =
     let found = c.find in
-    c.put_dash.ensures ∙ ap (written _ _) (dash-printed _ _ found.result found.ensures c.in-None.is)
+    c.put_text.ensures ∙ ap (written _ _) (dash-printed _ _ found.result found.ensures c.in-None.is)

@@ -1,17 +1,13 @@
 use mathlib.Core.Path.{ap}
 use mathlib.Core.Bool.{not}
-use native.Mathlib.Omega.{arith}
 use Rattle.file_lines.proofs.Checks.{said, denied}
-use Rattle.sheet_head.proofs.Heads.{no_call, large-call, call-read}
+use Rattle.sheet_head.proofs.Heads.{no_call, call-read}
 use Rattle.sheet_head.proofs.read_call.Goals as goal
 
 pub returns-then-not-check_line : goal.returns-then-not-check_line
 returns-then-not-check_line c = let k = c.check_line in
     no_call _ _ (denied k.result (ap not c.if-not-check_line.true) k.ensures)
 
-pub returns-then-call-gt12 : goal.returns-then-call-gt12
-returns-then-call-gt12 c = large-call _ _ _ c.number_at-call.ensures c.if-call-gt12.true
-
 pub returns : goal.returns
 returns c = let k = c.check_line in
-    call-read _ _ _ c.number_at-call.ensures (said k.result (ap not c.if-not-check_line.false) k.ensures) (omega arith)
+    call-read _ _ _ c.number_at.ensures (said k.result (ap not c.if-not-check_line.false) k.ensures) c.call_of.result c.call_of.ensures
