@@ -13,6 +13,7 @@ ghost use Rattle.two_opt.specs.Pairs.{pairs_of};
 
 use model::Prices;
 use solution::Found;
+use two_opt_inter::Visit;
 
 // The pair s, t: no change where one of them is unplaced, else the move on their route or on their two routes, that of s first.
 pub fn pair(legs: &[u32], v: usize, n: usize, prices: Prices, plan: &mut [u32], s: u32, t: u32)
@@ -32,7 +33,15 @@ pub fn pair(legs: &[u32], v: usize, n: usize, prices: Prices, plan: &mut [u32], 
     if a == b {
         two_opt_intra::intra(legs, v, n, prices, plan, a, s, t);
     } else {
-        two_opt_inter::inter(legs, v, n, prices, plan, a, s, b, t);
+        let first = Visit {
+            vehicle: a,
+            stop: s,
+        };
+        let second = Visit {
+            vehicle: b,
+            stop: t,
+        };
+        two_opt_inter::inter(legs, v, n, prices, plan, first, second);
     }
 }
 

@@ -14,25 +14,41 @@ ghost use Rattle.two_opt_inter.specs.Move.{OnTwoRoutes, TwoRoutes, Pair, NewRows
 use model::Prices;
 use two_opt_candidates::Best;
 
-// The kept candidate of a pair of stops on routes a and b of a plan.
+// A stop, and the vehicle on whose route it is.
+#[derive(Clone, Copy)]
+pub struct Visit {
+    pub vehicle: usize,
+    pub stop: u32,
+}
+
+// The kept candidate of a pair of stops on two routes of a plan.
 fn least_of_plan(
     legs: &[u32],
     v: usize,
     n: usize,
     prices: Prices,
     plan: &[u32],
-    a: usize,
-    s: u32,
-    b: usize,
-    t: u32,
+    first: Visit,
+    second: Visit,
 ) -> Best
     requires ready { Ready legs.now v n prices plan.now }
-    requires on_two_routes { OnTwoRoutes v plan.now a s b t }
-    ensures { result.code ≡ (least_pair legs.now prices a (route_of (decode v plan.now) a) s b (route_of (decode v plan.now) b) t).0 }
+    requires on_two_routes { OnTwoRoutes v plan.now first.vehicle first.stop second.vehicle second.stop }
+    ensures { let ra = route_of (decode v plan.now) first.vehicle in
+        let rb = route_of (decode v plan.now) second.vehicle in
+        result.code ≡ (least_pair legs.now prices first.vehicle ra first.stop second.vehicle rb second.stop).0 }
 {
-    let ra = solution::route(plan, v, n, a);
-    let rb = solution::route(plan, v, n, b);
-    two_opt_candidates::least_pair(legs, prices, a, ra, s, b, rb, t)
+    let ra = solution::route(plan, v, n, first.vehicle);
+    let rb = solution::route(plan, v, n, second.vehicle);
+    two_opt_candidates::least_pair(
+        legs,
+        prices,
+        first.vehicle,
+        ra,
+        first.stop,
+        second.vehicle,
+        rb,
+        second.stop,
+    )
 }
 
 // Writes a route into the front of a row, reversed or not.
@@ -103,17 +119,15 @@ fn write_candidate(
     plan: &mut [u32],
     v: usize,
     n: usize,
-    a: usize,
-    s: u32,
-    b: usize,
-    t: u32,
+    first: Visit,
+    second: Visit,
     code: usize,
 )
-    requires { Pair v n old.now a s b t × (length plan.old ≡ v + n) }
-    ensures { plan.new ≡ encode n (plan_at (decode v old.now) a s b t code) }
+    requires { Pair v n old.now first.vehicle first.stop second.vehicle second.stop × (length plan.old ≡ v + n) }
+    ensures { plan.new ≡ encode n (plan_at (decode v old.now) first.vehicle first.stop second.vehicle second.stop code) }
 {
-    let ra = solution::route(old, v, n, a);
-    let rb = solution::route(old, v, n, b);
+    let ra = solution::route(old, v, n, first.vehicle);
+    let rb = solution::route(old, v, n, second.vehicle);
     let m = ra.len();
     let k = rb.len();
     let mut xa = [0u32; 64];
@@ -122,39 +136,37 @@ fn write_candidate(
     write_turned(code / 16 % 2 == 1, rb, &mut xb);
     let ta = &xa[..m];
     let tb = &xb[..k];
-    let i = solution::position(ta, s);
-    let j = solution::position(tb, t);
-    let first = Row { stops: ta, at: i };
-    let second = Row { stops: tb, at: j };
-    write_pair(old, plan, v, n, a, first, b, second, code);
+    let i = solution::position(ta, first.stop);
+    let j = solution::position(tb, second.stop);
+    let xs = Row { stops: ta, at: i };
+    let ys = Row { stops: tb, at: j };
+    write_pair(old, plan, v, n, first.vehicle, xs, second.vehicle, ys, code);
 }
 
 // The code of the plan as it is.
 const OLD_PLAN: usize = 0;
 
-// The two-opt move of stop s on route a and stop t on route b of a plan: the kept candidate is written, unless it is the old plan.
+// The two-opt move of two stops on two routes of a plan: the kept candidate is written, unless it is the old plan.
 pub fn inter(
     legs: &[u32],
     v: usize,
     n: usize,
     prices: Prices,
     plan: &mut [u32],
-    a: usize,
-    s: u32,
-    b: usize,
-    t: u32,
+    first: Visit,
+    second: Visit,
 )
     requires ready { Ready legs.now v n prices plan.old }
-    requires on_two_routes { OnTwoRoutes v plan.old a s b t }
-    ensures plan_after { (J : Job) → Fits J legs.now v n prices → plan.new ≡ encode n (inter J (decode v plan.old) a s b t) }
+    requires on_two_routes { OnTwoRoutes v plan.old first.vehicle first.stop second.vehicle second.stop }
+    ensures plan_after { (J : Job) → Fits J legs.now v n prices → plan.new ≡ encode n (inter J (decode v plan.old) first.vehicle first.stop second.vehicle second.stop) }
     ensures lent { Lent v n plan.new }
 {
-    let best = least_of_plan(legs, v, n, prices, plan, a, s, b, t);
+    let best = least_of_plan(legs, v, n, prices, plan, first, second);
     let code = best.code;
     if code == OLD_PLAN {
         return;
     }
     let mut old = [0u32; 80];
     let m = pasting::paste(&mut old, 0, plan);
-    write_candidate(&old[..m], plan, v, n, a, s, b, t, code);
+    write_candidate(&old[..m], plan, v, n, first, second, code);
 }
