@@ -27,7 +27,7 @@ loop-stop-preserved g c =
       search rules,
       search rules,
       λ xs m. let W = c.loop-stop.invariant.2 xs m in
-      walk_more g.I.Iterator.next_gives (λ s. s.now) c.args.legs.now c.args.a c.args.b xs W c.in-Some.ensures.steps (c.with_stop-ends.ensures c.args.a c.args.b _ W.ends),
+          walk_more g.I.Iterator.next_gives (λ s. s.now) c.args.legs.now c.args.a c.args.b xs W c.in-Some.ensures.steps (c.with_stop-ends.ensures c.args.a c.args.b _ W.ends),
     )
 
 pub returns : goal.returns
