@@ -12,6 +12,10 @@ ghost use Rattle.two_opt_candidates.specs.Weighed.{Weighs, found, tried, joined_
 use model::Prices;
 use two_opt_cuts::{Cut, Cuts, End};
 
+// A candidate stays a number, and is no struct of six flags: of candidates that cost the same the one with the lowest number is
+// kept, which is the order in which the definitions number them, and the number alone is compared and handed on. What it says is
+// read once, of the kept candidate, here and where its two routes are turned.
+
 // What a candidate's number says of two rows: where they are cut, and whether each route keeps its own head and its own tail.
 #[derive(Clone, Copy)]
 pub struct Choice {
@@ -122,23 +126,28 @@ fn least_of_cuts(legs: &[u32], prices: Prices, x: Cuts, y: Cuts) -> Best
     least_of_turns(legs, prices, p, q, 48, first)
 }
 
-// The kept candidate of two routes.
+// A stop, and the vehicle on whose route it is.
+#[derive(Clone, Copy)]
+pub struct Visit {
+    pub vehicle: usize,
+    pub stop: u32,
+}
+
+// The kept candidate of two stops on two routes.
 pub fn least_pair(
     legs: &[u32],
     prices: Prices,
-    a: usize,
+    first: Visit,
     ra: &[u32],
-    s: u32,
-    b: usize,
+    second: Visit,
     rb: &[u32],
-    t: u32,
 ) -> Best
-    requires { Routes legs.now prices a ra.now s b rb.now t }
-    ensures { found result ≡ least_pair legs.now prices a ra.now s b rb.now t }
+    requires { Routes legs.now prices first.vehicle ra.now first.stop second.vehicle rb.now second.stop }
+    ensures { found result ≡ least_pair legs.now prices first.vehicle ra.now first.stop second.vehicle rb.now second.stop }
 {
-    let i = solution::position(ra, s);
-    let j = solution::position(rb, t);
-    let x = two_opt_cuts::cut_at(legs, a, b, ra, i);
-    let y = two_opt_cuts::cut_at(legs, a, b, rb, j);
+    let i = solution::position(ra, first.stop);
+    let j = solution::position(rb, second.stop);
+    let x = two_opt_cuts::cut_at(legs, first.vehicle, second.vehicle, ra, i);
+    let y = two_opt_cuts::cut_at(legs, first.vehicle, second.vehicle, rb, j);
     least_of_cuts(legs, prices, x, y)
 }

@@ -1,18 +1,16 @@
 -- Laws of what is written into rows, and of the places where these are cut.
-use Prim.Native.Nat.{ℕ, ◌+◌, ◌-◌, ◌≤◌}
+use Prim.Native.Nat.{ℕ, ◌+◌, ◌≤◌}
 use native.Mathlib.Omega.{arith}
 use mathlib.Core.Path.{◌≡◌, sym, ap, ◌∙◌}
 use mathlib.Core.Bool.{Bool}
-use mathlib.Core.List.{List, ◌++◌}
-use lib.ListN.{length, take, drop, length-append, length-take, length-drop}
+use mathlib.Core.List.{List}
+use lib.ListN.{length, take, drop, length-take}
 use lib.Seq.{take_at}
 use Rattle.model.specs.Plan.{Route}
 use Rattle.model.specs.TwoOpt.{turned}
-use Rattle.model.proofs.Lists.{part_end}
 use Rattle.pasting.specs.Put.{put}
 use Rattle.two_opt_candidates.specs.Pairs.{choice_of}
 use Rattle.two_opt_candidates.specs.declared.Choice.{Choice}
-use Rattle.two_opt_inter.specs.Move.{joined_route}
 
 -- the first m of a row are xs
 pub record Front (row : List ℕ) (m : ℕ) (xs : List ℕ) : Type 0 where

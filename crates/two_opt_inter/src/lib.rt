@@ -13,13 +13,7 @@ ghost use Rattle.two_opt_inter.specs.Move.{OnTwoRoutes, TwoRoutes, Pair, NewRows
 
 use model::Prices;
 use two_opt_candidates::Best;
-
-// A stop, and the vehicle on whose route it is.
-#[derive(Clone, Copy)]
-pub struct Visit {
-    pub vehicle: usize,
-    pub stop: u32,
-}
+pub use two_opt_candidates::Visit;
 
 // The kept candidate of a pair of stops on two routes of a plan.
 fn least_of_plan(
@@ -39,16 +33,7 @@ fn least_of_plan(
 {
     let ra = solution::route(plan, v, n, first.vehicle);
     let rb = solution::route(plan, v, n, second.vehicle);
-    two_opt_candidates::least_pair(
-        legs,
-        prices,
-        first.vehicle,
-        ra,
-        first.stop,
-        second.vehicle,
-        rb,
-        second.stop,
-    )
+    two_opt_candidates::least_pair(legs, prices, first, ra, second, rb)
 }
 
 // Writes a route into the front of a row, reversed or not.
