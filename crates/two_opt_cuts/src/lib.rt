@@ -17,7 +17,8 @@ pub struct End {
     pub back: u32,
 }
 
-// The same stops on each of two vehicles.
+// The same stops on each of two vehicles. This struct and the next two are no one generic pair: their fields say which vehicle,
+// which side of a cut and which cut is meant, and `.0` and `.1` would not.
 #[derive(Clone, Copy)]
 pub struct Ends {
     pub first: End,
@@ -120,12 +121,14 @@ pub fn cut_at(legs: &[u32], a: usize, b: usize, route: &[u32], i: usize) -> Cuts
 pub fn reversed(cuts: Cuts) -> Cuts
     ensures { result ≡ reversed_cuts cuts }
 {
-    let x = cuts.before;
-    let y = cuts.after;
-    let up = x.head;
-    let from = x.tail;
-    let upto = y.head;
-    let down = y.tail;
+    let Cut {
+        head: up,
+        tail: from,
+    } = cuts.before;
+    let Cut {
+        head: upto,
+        tail: down,
+    } = cuts.after;
     Cuts {
         before: Cut {
             head: down,
