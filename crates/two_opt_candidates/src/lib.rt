@@ -12,9 +12,9 @@ ghost use Rattle.two_opt_candidates.specs.Weighed.{Weighs, found, tried, joined_
 use model::Prices;
 use two_opt_cuts::{Cut, Cuts, End};
 
-// A candidate stays a number, and is no struct of six flags: of candidates that cost the same the one with the lowest number is
-// kept, which is the order in which the definitions number them, and the number alone is compared and handed on. What it says is
-// read once, of the kept candidate, here and where its two routes are turned.
+// A candidate stays a number, and is no struct of six flags, which would be no plainer: the definitions number the candidates in the
+// order in which they are tried, so the lowest number of the cheapest is kept, and each of the forty that are weighed has one value
+// to hand on in place of six. What a number says is read once, of the kept candidate: here, and where its two routes are turned.
 
 // What a candidate's number says of two rows: where they are cut, and whether each route keeps its own head and its own tail.
 #[derive(Clone, Copy)]
