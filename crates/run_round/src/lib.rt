@@ -22,10 +22,7 @@ pub struct Progress {
 fn improves(old: f64, new: f64) -> u32
     ensures { (result ≤ 1) × ((m k : ℕ) → m ≤ exact → k ≤ exact → old ≡ whole m → new ≡ whole k → result ≡ cond (ltb k m) 1 0) }
 {
-    if new < old {
-        return 1;
-    }
-    0
+    u32::from(new < old)
 }
 
 // What a run carries on after a round that leaves a plan of that cost and drew so many picks.
@@ -66,6 +63,6 @@ pub fn round(
     two_opt::pass(legs, v, n, prices, plan, &near[row..row + n]);
     let mut picks = [0u32; 2];
     let k = run_draws::pick(near, n, draws, place, &mut picks);
-    let walk = rebuild::rebuild(legs, v, n, prices, plan, &picks[0..k]);
+    let walk = rebuild::rebuild(legs, v, n, prices, plan, &picks[..k]);
     counted(p, walk.cost, k, smoothing)
 }
