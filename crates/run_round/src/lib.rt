@@ -63,6 +63,6 @@ pub fn round(
     two_opt::pass(legs, v, n, prices, plan, &near[row..row + n]);
     let mut picks = [0u32; 2];
     let k = run_draws::pick(near, n, draws, place, &mut picks);
-    let walk = rebuild::rebuild(legs, v, n, prices, plan, &picks[..k]);
+    let walk = rebuild::rebuild(legs, v, n, prices, plan, &picks[0..k]);
     counted(p, walk.cost, k, smoothing)
 }
