@@ -9,7 +9,7 @@ use native.Mathlib.Omega.{arith}
 use lib.Dec.{ltb}
 use lib.Ieee.{Float, lt}
 use lib.ListN.{length, take, drop}
-use mir.Val.{bool_byte as from_bool}
+use Rattle.std.specs.Int.{from_bool}
 use Rattle.model.specs.declared.Prices.{Prices}
 use Rattle.model.specs.declared.Walk.{Walk}
 use Rattle.model.specs.declared.Averages.{Averages}
