@@ -2,6 +2,6 @@ use mathlib.Core.Path.{◌≡◌}
 use Rattle.ruin_and_recreate.proofs.Whole.{Within}
 use Rattle.ruin_and_recreate.proofs.rounds.Given as goal
 
-abbrev pub invariant-loop-_done : goal.invariant-loop-_done
-invariant-loop-_done l =
+abbrev pub invariant-loop-done : goal.invariant-loop-done
+invariant-loop-done l =
     Within l.legs l.v l.n l.prices l.draws l.smoothing l.limit l.plan l.p × (l.p.rounds ≡ l._done)
