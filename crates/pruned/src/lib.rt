@@ -79,6 +79,7 @@ fn reach(
     let m = v + n;
     let mut next = [0u32; 9];
     let mut rest = left;
+    // The stops of a set come by its lowest: a set is a number, and a `for` would carry the same number in an iterator of its own.
     while rest != 0 {
         let stop = stop_set::lowest(rest);
         rest = stop_set::without(rest, stop);

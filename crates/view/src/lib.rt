@@ -45,9 +45,7 @@ fn unplaced_set(plan: &[u32], v: usize, n: usize) -> u64
 {
     let placed = solution::placed_set(plan, v, n);
     let mut set: u64 = 0;
-    let mut s = n as u32;
-    while 0 < s {
-        s -= 1;
+    for s in (0..n as u32).rev() {
         if !stop_set::contains(placed, s) {
             set = stop_set::with(set, s);
         }
