@@ -88,7 +88,7 @@ pub fn bad_limit(limit: u32) -> bool
     !(1..=1000000).contains(&limit)
 }
 
-// Whether every stop of one set is in another.
+// Whether every stop of one set is in another. A set of stops is one number of 64 bits, so the test is a mask.
 fn inside(part: u64, set: u64) -> bool
     ensures { result ≡ all_live set (stops_of part) }
 {
