@@ -192,7 +192,8 @@ fn of_live(
     Ok(())
 }
 
-// What arrive is refused with: 1 to 4, 6 to 8, 11, 12, 16, or none.
+// What arrive is refused with: 1 to 4, 6 to 8, 11, 12, 16, or none. It and of_cancel are two functions, as the tables of their calls are two: one
+// function of both would be handed its last test and the refusal of that test, and would read no plainer.
 pub fn of_arrive(
     vehicles: &[u32],
     stops: &[u32],

@@ -1,6 +1,7 @@
 // The public calls, under one name. Each tests its arguments and promises what `Calls` of model defines: a refusal by its number, with
 // the lent plan as it was, or the values, with the new plan in the lent one. None has a precondition. Those that came later stand in
 // crates of their own, and are passed on.
+// Each call fills a leg table of its own, a local of fixed size in its own frame, as there is no heap to hand it out from.
 #![tactic(auto)]
 
 ghost use Rattle.std.specs.Prelude.{[], ◌∷◌};
