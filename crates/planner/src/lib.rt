@@ -65,9 +65,7 @@ pub fn two_opt(
     ensures { Weighs TwoOpt (asking (job_of vehicles.now stops.now locations distances.now prices) plan.old (first ∷ second ∷ [])) result plan.new }
 {
     let both = [first, second];
-    call_refusals::of_rebuild(
-        vehicles, stops, locations, distances, prices, plan, &both,
-    )?;
+    call_refusals::of_rebuild(vehicles, stops, locations, distances, prices, plan, &both)?;
     let mut legs = [0u32; 6400];
     distance::leg_table(vehicles, stops, locations, distances, &mut legs);
     let v = vehicles.len() / 2;
@@ -88,9 +86,7 @@ pub fn rebuild(
 ) -> Result<Walk, Refusal>
     ensures { Rebuilds (asking (job_of vehicles.now stops.now locations distances.now prices) plan.old given.now) result plan.new }
 {
-    call_refusals::of_rebuild(
-        vehicles, stops, locations, distances, prices, plan, given,
-    )?;
+    call_refusals::of_rebuild(vehicles, stops, locations, distances, prices, plan, given)?;
     let mut legs = [0u32; 6400];
     distance::leg_table(vehicles, stops, locations, distances, &mut legs);
     let v = vehicles.len() / 2;
