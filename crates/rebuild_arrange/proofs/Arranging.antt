@@ -26,9 +26,12 @@ use Rattle.rebuild_fillings.specs.Rows.{word_of, filling_of, Full}
 use Rattle.rebuild_fillings.proofs.Places.{own-plan, standing-start}
 use Rattle.rebuild_fillings.proofs.Full.{full-worded, own-full, padded-full}
 use Rattle.rebuild_tables.specs.Frame.{gap_count, placed_count, drained_count, framed_plan, framed_regions, plan_by, form_of, Placeable, Framing}
-use Rattle.rebuild_tables.specs.Ways.{prices_at, cost_by}
+use Rattle.rebuild_ways.specs.declared.Ways.{Ways}
+use Rattle.rebuild_ways.specs.Ways.{prices_at}
+use Rattle.rebuild_tables.specs.Ways.{cost_by}
 use Rattle.rebuild_tables.specs.Table.{stops_from}
-use Rattle.rebuild_tables.specs.Meeting.{best_word, calls_in}
+use Rattle.rebuild_tables.specs.declared.Kept.{Kept}
+use Rattle.rebuild_tables.specs.Kept.{calls_in}
 use Rattle.rebuild_tables.specs.Walks.{FullIn, best_plan, Visitable, Visited}
 use Rattle.rebuild_tables.proofs.Plans.{plan-wide, plan-lent}
 use Rattle.rebuild_tables.proofs.Ways.{driven-none, cost-padded}
@@ -43,7 +46,7 @@ module _ (t : List ℕ) (v n : ℕ) (p : Prices) (xs regions : List ℕ) (A : Ar
   abbrev gs : List Region
   gs = regions_of regions
 
-  module _ (f : List ℕ) (F : Framing xs v n regions f) (ways : List Float) (T : Tells t v n p f ways) where
+  module _ (f : List ℕ) (F : Framing xs v n regions f) (ways : Ways) (T : Tells t v n p f ways) where
     abbrev k : ℕ
     k = gap_count f
 
@@ -130,32 +133,32 @@ module _ (t : List ℕ) (v n : ℕ) (p : Prices) (xs regions : List ℕ) (A : Ar
           abbrev best : Plan
           best = best_plan f kept
 
-          full : FullIn f (filling_of (best_word kept))
+          full : FullIn f (filling_of kept.best)
           full = W.held.word.full
 
-          best-full : Full (length gs) (length (stops_from v xs regions)) (filling_of (best_word kept))
+          best-full : Full (length gs) (length (stops_from v xs regions)) (filling_of kept.best)
           best-full =
-              subst (λ (x : ℕ). Full (length gs) x (filling_of (best_word kept))) (same-drained xs v n regions f F)
-              (subst (λ (x : ℕ). Full x m (filling_of (best_word kept))) (same-gaps xs v n regions f F) full)
+              subst (λ (x : ℕ). Full (length gs) x (filling_of kept.best)) (same-drained xs v n regions f F)
+              (subst (λ (x : ℕ). Full x m (filling_of kept.best)) (same-gaps xs v n regions f F) full)
 
           best-lent : Lent v n (encode n best)
           best-lent =
-              rw (same_by (filling_of (best_word kept)))
-              (plan-lent v n xs A.gapped.plan gs (filling_of (best_word kept)) (length (stops_from v xs regions)) best-full refl A.gapped.stretches)
+              rw (same_by (filling_of kept.best))
+              (plan-lent v n xs A.gapped.plan gs (filling_of kept.best) (length (stops_from v xs regions)) best-full refl A.gapped.stretches)
 
           -- as it is read back
           best-read : decode v (encode n best) ≡ best
           best-read =
               decode-encode n best v
-              (ap length (same_by (filling_of (best_word kept))) ∙ plan-wide P gs (filling_of (best_word kept)) ∙ lent_length v n xs A.gapped.plan)
+              (ap length (same_by (filling_of kept.best)) ∙ plan-wide P gs (filling_of kept.best) ∙ lent_length v n xs A.gapped.plan)
 
           best-costs : Costs t v n p best found
           best-costs =
-              let e : cost_by ways m (filling_of (best_word kept)) ≡ table_cost t p n best = T.costs (filling_of (best_word kept)) full in
+              let e : cost_by ways m (filling_of kept.best) ≡ table_cost t p n best = T.costs (filling_of kept.best) full in
               record {
-                small = omega (arith, e, T.tabled.small (filling_of (best_word kept)) full);
+                small = omega (arith, e, T.tabled.small (filling_of kept.best) full);
                 table = W.held.cost ∙ ap whole e;
-                job = λ J fits. W.held.cost ∙ ap whole (sym ((T.priced J fits).each (filling_of (best_word kept)) full));
+                job = λ J fits. W.held.cost ∙ ap whole (sym ((T.priced J fits).each (filling_of kept.best) full));
               }
 
           chosen : (J : Job) → Fits J t v n p → best ≡ choose J P (arrangements P gs)
@@ -164,7 +167,7 @@ module _ (t : List ℕ) (v n : ℕ) (p : Prices) (xs regions : List ℕ) (A : Ar
               ∙ ap (λ (X : Plan). choose J X (arrangements (framed_plan f) (framed_regions f))) own_is
               ∙ ap₂ (λ (X : Plan) (hs : List Region). choose J P (arrangements X hs)) (same-plan xs v n regions f F) (same-regions xs v n regions f F)
 
-          pub visited-arranged : (after : List ℕ) → after ≡ form_of f (best_word kept) → (r : Walk) → r.cost ≡ found → r.begun ≡ calls_in kept 0
+          pub visited-arranged : (after : List ℕ) → after ≡ form_of f kept.best → (r : Walk) → r.cost ≡ found → r.begun ≡ calls_in kept 0
               → r.completed ≡ calls_in kept (k - 1) → Arranged t v n p xs regions after r
           visited-arranged after ea r ec eb ed =
               let e : after ≡ encode n best = ea ∙ ap (λ (x : ℕ). encode x best) F.total in

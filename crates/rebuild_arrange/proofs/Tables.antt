@@ -22,8 +22,11 @@ use Rattle.rebuild_survey.proofs.Surveys.{turn}
 use Rattle.rebuild_fillings.specs.Walk.{Filling, stop_at, plan_at}
 use Rattle.rebuild_fillings.specs.Rows.{Full}
 use Rattle.rebuild_tables.specs.Frame.{gap_count, drained_count, framed_plan, framed_regions, plan_by, Framing}
-use Rattle.rebuild_tables.specs.Ways.{vacant_at, prices_at, route_by, cost_by}
-use Rattle.rebuild_tables.specs.Table.{stops_from, Fillable, Filled, Grounded}
+use Rattle.rebuild_ways.specs.declared.Ways.{Ways}
+use Rattle.rebuild_ways.specs.Ways.{vacant_at, prices_at}
+use Rattle.rebuild_tables.specs.Ways.{route_by, cost_by}
+use Rattle.rebuild_ways.specs.Table.{Fillable, Filled}
+use Rattle.rebuild_tables.specs.Table.{stops_from, Grounded}
 use Rattle.rebuild_tables.specs.Walks.{FullIn}
 use Rattle.rebuild_tables.proofs.Frames.{drained-many}
 use Rattle.rebuild_tables.proofs.Costs.{measured-way, cost-by, short-by, small_by, job-by}
@@ -134,7 +137,7 @@ module _ (t : List ℕ) (v n : ℕ) (p : Prices) (xs regions f : List ℕ) (c : 
       whole = T.whole;
     }
 
-    module _ (ways : List Float) (W : Filled t p starts ends gaps k base ways) where
+    module _ (ways : Ways) (W : Filled t p starts ends gaps k base ways) where
       grounded : Grounded t v n p xs regions gaps starts ends base ways
       grounded = record {
         legs = T.plan.legs;

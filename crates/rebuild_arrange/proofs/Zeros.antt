@@ -5,7 +5,7 @@ use native.Mathlib.Omega.{arith}
 use lib.Ieee.{binary64, of_bits}
 use lib.ListN.{get_or, replicate}
 use Rattle.whole.proofs.Laws.{zero-whole}
-use Rattle.rebuild_tables.specs.Ways.{Wholly}
+
 
 pub zeros-none : (k i : ℕ) → ◌≡◌ {A = ℕ} (get_or (replicate k 0) i 0) 0
 zeros-none zero i = refl

@@ -6,7 +6,8 @@ use Rattle.model.specs.StopSet.{stops_of}
 use Rattle.model.specs.Whole.{amount}
 use Rattle.model.proofs.Order.{both}
 use Rattle.rebuild_tables.specs.Frame.{placed_count, form_of}
-use Rattle.rebuild_tables.specs.Meeting.{best_word, most_placed, trail, wrapped, trail_with, prefers_tie, wins, Comparable, placed_with, Met}
+use Rattle.rebuild_tables.specs.declared.Kept.{Kept}
+use Rattle.rebuild_tables.specs.Meeting.{wrapped, trail_with, prefers_tie, wins, Comparable, placed_with, Met}
 
 -- ---- the tests
 
@@ -16,15 +17,15 @@ or-none false = refl
 
 module _ (f kept : List ℕ) (placed word : ℕ) where
   abbrev tie : Bool
-  tie = prefers_tie placed (form_of f word) (most_placed kept) (form_of f (best_word kept))
+  tie = prefers_tie placed (form_of f word) kept.most (form_of f kept.best)
 
   -- as many stops placed: the lower one is preferred
-  pub tie-same : (r : Bool) → placed ≡ most_placed kept → r ≡ lower (form_of f word) (form_of f (best_word kept)) → r ≡ tie
-  tie-same r e h = rw (le-ltb (most_placed kept) placed (omega arith), eq-eqb placed (most_placed kept) e) h
+  pub tie-same : (r : Bool) → placed ≡ kept.most → r ≡ lower (form_of f word) (form_of f kept.best) → r ≡ tie
+  tie-same r e h = rw (le-ltb kept.most placed (omega arith), eq-eqb placed kept.most e) h
 
   -- else the one that places more
-  pub tie-other : (placed ≡ most_placed kept → ⊥) → ltb (most_placed kept) placed ≡ tie
-  tie-other h = rw (ne_eqb placed (most_placed kept) h) (or-none (ltb (most_placed kept) placed))
+  pub tie-other : (placed ≡ kept.most → ⊥) → ltb kept.most placed ≡ tie
+  tie-other h = rw (ne_eqb placed kept.most h) (or-none (ltb kept.most placed))
 
   module _ (cost best : Float) where
     abbrev a : ℕ
@@ -57,14 +58,14 @@ pub trail_is : (t w a b c : ℕ) → a ≡ wrapped t t → b ≡ wrapped a t →
 unfolding trail_with
 trail_is t w a b c ea eb ec = ec ∙ ap (λ (x : ℕ). wrapped x w) (eb ∙ ap (λ (x : ℕ). wrapped x t) ea)
 
-module _ (f kept : List ℕ) (left word : ℕ) (cost best : Float) (c : Comparable f kept word cost best) (t : ℕ) (et : t ≡ trail_with (trail kept) word) where
+module _ (f kept : List ℕ) (left word : ℕ) (cost best : Float) (c : Comparable f kept word cost best) (t : ℕ) (et : t ≡ trail_with kept.trail word) where
   abbrev pub noted : List ℕ
   noted = set kept 5 t
 
-  same-best : best_word noted ≡ best_word kept
+  same-best : noted.best ≡ kept.best
   same-best = get_or-set_other kept 5 0 t 0 (λ e. omega arith)
 
-  same-most : most_placed noted ≡ most_placed kept
+  same-most : noted.most ≡ kept.most
   same-most = get_or-set_other kept 5 1 t 0 (λ e. omega arith)
 
   long-noted : length noted ≡ 6
