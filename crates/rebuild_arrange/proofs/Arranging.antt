@@ -65,7 +65,6 @@ module _ (t : List ℕ) (v n : ℕ) (p : Prices) (xs regions : List ℕ) (A : Ar
 
     pub addable : (j : ℕ) → j ≡ k → (d : ℕ) → d ≡ m → Addable ways j d p
     addable j ej d ed = rw (ej, ed) (record {
-      whole = T.tabled.whole;
       affordable = A.prices;
       prices = T.prices;
       some = F.framed.some;
@@ -91,45 +90,35 @@ module _ (t : List ℕ) (v n : ℕ) (p : Prices) (xs regions : List ℕ) (A : Ar
     same_by : (fill : Filling) → plan_by f fill ≡ plan_at P gs fill
     same_by fill = ap₂ (λ (X : Plan) (hs : List Region). plan_at X hs fill) (same-plan xs v n regions f F) (same-regions xs v n regions f F)
 
-    module _ (w : ℕ) (ew : w ≡ word_of (own P gs)) where
-      own_read : (filling_of w ≡ own P gs) × Placeable f w
-      own_read = full-worded k m (own P gs) own_in few-gaps F.framed.few w ew
+    -- what is kept before the walk: the word of the plan itself
+    module _ (first : Kept) (ew : first.best ≡ word_of (own P gs)) where
+      own_read : (filling_of first.best ≡ own P gs) × Placeable f first.best
+      own_read = full-worded k m (own P gs) own_in few-gaps F.framed.few first.best ew
 
       -- the plan itself
-      own_is : plan_by f (filling_of w) ≡ P
-      own_is = same_by (filling_of w) ∙ ap (plan_at P gs) own_read.0 ∙ own-plan P gs A.gapped.stretches
+      own_is : plan_by f (filling_of first.best) ≡ P
+      own_is = same_by (filling_of first.best) ∙ ap (plan_at P gs) own_read.0 ∙ own-plan P gs A.gapped.stretches
 
-      own-cost : cost_by ways m (filling_of w) ≡ table_cost t p n P
-      own-cost = T.costs (filling_of w) own_read.1.full ∙ ap (table_cost t p n) own_is
+      own-cost : cost_by ways m (filling_of first.best) ≡ table_cost t p n P
+      own-cost = T.costs (filling_of first.best) own_read.1.full ∙ ap (table_cost t p n) own_is
 
-      module _ (most : ℕ) (em : most ≡ placed_count f) (c : Float) (ec : c ≡ whole (table_cost t p n P)) (others : Float) (j d : ℕ) (ej : j ≡ k) (ed : d ≡ m)
+      module _ (em : first.most ≡ placed_count f) (fresh : (r : ℕ) → r < 3 → calls_in first r ≡ 0) (c : Float) (ec : c ≡ whole (table_cost t p n P)) (others : Float) (j d : ℕ) (ej : j ≡ k) (ed : d ≡ m)
           (eo : others ≡ whole (beside_first ways j d)) where
-        -- what is kept before the walk
-        abbrev pub kept_at_first : List ℕ
-        kept_at_first = w ∷ most ∷ 0 ∷ 0 ∷ 0 ∷ 0 ∷ []
-
-        pub visitable : Visitable ways f kept_at_first others c
+        pub visitable : Visitable ways f first others c
         visitable = record {
           tabled = T.tabled;
           held = record {
-            long = refl;
             word = own_read.1;
             cost = ec ∙ ap whole (sym own-cost);
             placed = em ∙ F.framed.placed ∙ ap placed (same-plan xs v n regions f F ∙ sym own_is);
           };
           start = eo ∙ ap₂ (λ (a b : ℕ). whole (beside_first ways a b)) ej ed;
-          fresh = none-called;
+          fresh = fresh;
         }
-          where
-            none-called : (r : ℕ) → r < 3 → calls_in kept_at_first r ≡ 0
-            none-called zero h = refl
-            none-called (suc zero) h = refl
-            none-called (suc (suc zero)) h = refl
-            none-called (suc (suc (suc r))) h = absurd (omega arith)
 
         -- ---- the best of all
 
-        module _ (kept : List ℕ) (found : Float) (W : Visited ways f kept_at_first kept found) where
+        module _ (kept : Kept) (found : Float) (W : Visited ways f first kept found) where
           abbrev best : Plan
           best = best_plan f kept
 

@@ -35,12 +35,11 @@ pub record EndsOf (f known : List ℕ) (side : ℕ) (r : List ℕ) : Type 0 wher
   pub small : (i : ℕ) → get_or r i 0 < 80
 
 -- what all but the first gap's route costs where p gaps are empty, and so many drained stops are left
-abbrev pub beside_first : List Float → ℕ → ℕ → ℕ
+abbrev pub beside_first : Ways → ℕ → ℕ → ℕ
 beside_first ways p m = base_at ways + (driven_by ways 1 (empties (p - 1)) + missed_cost (prices_at ways) m)
 
 -- what is asked to add that up
 pub record Addable (ways : Ways) (p m : ℕ) (c : Prices) : Type 0 where
-  pub whole : Wholly ways
   pub affordable : Affordable c
   pub prices : prices_at ways ≡ c
   pub some : 1 ≤ p
@@ -50,12 +49,11 @@ pub record Addable (ways : Ways) (p m : ℕ) (c : Prices) : Type 0 where
   pub small : beside_first ways p m ≤ exact
 
 -- what is asked to fill the table of ways of a framed plan, which costs so much
-pub record Tableable (t : List ℕ) (v n : ℕ) (p : Prices) (xs regions f : List ℕ) (c : Float) (ways : Ways) : Type 0 where
+pub record Tableable (t : List ℕ) (v n : ℕ) (p : Prices) (xs regions f : List ℕ) (c : Float) : Type 0 where
   pub plan : Arrangeable t v n p xs regions
   pub framing : Framing xs v n regions f
   pub near : (i : ℕ) → i < 24 → 16 < i → get_or f i 0 < 64
   pub cost : c ≡ whole (table_cost t p n (decode v xs))
-  pub whole : Wholly ways
 
 -- the table tells the routes and the costs of all arrangements of the frame
 pub record Tells (t : List ℕ) (v n : ℕ) (p : Prices) (f : List ℕ) (ways : Ways) : Type 0 where
