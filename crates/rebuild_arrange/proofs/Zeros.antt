@@ -1,9 +1,7 @@
 -- Tables of zeros, as they are lent to be filled.
 use mathlib.Core.Path.{◌≡◌, refl}
 use Prim.Native.Nat.{ℕ, zero, suc, ◌<◌}
-use native.Mathlib.Omega.{arith}
 use lib.ListN.{get_or, replicate}
-
 
 pub zeros-none : (k i : ℕ) → ◌≡◌ {A = ℕ} (get_or (replicate k 0) i 0) 0
 zeros-none zero i = refl

@@ -86,15 +86,7 @@ fn table_ways(
     let base = base_of(legs, v, n, prices, plan, regions, cost);
     let starts = ends_of(frame, &gaps, 0);
     let ends = ends_of(frame, &gaps, 1);
-    Ways::filled(
-        legs,
-        prices,
-        &starts,
-        &ends,
-        &gaps,
-        regions.len() / 3,
-        base,
-    )
+    Ways::filled(legs, prices, &starts, &ends, &gaps, regions.len() / 3, base)
 }
 
 // Walks all arrangements of one region or more of a plan that costs so much, and writes the best.

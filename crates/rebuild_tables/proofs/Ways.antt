@@ -4,7 +4,6 @@ use native.Mathlib.Nat.{add-zero, add-suc, suc-add}
 use native.Mathlib.Omega.{arith}
 use mathlib.Core.Path.{◌≡◌, refl, ap, ◌∙◌}
 use mathlib.Core.List.{List, [], ◌∷◌, ◌++◌}
-use lib.Ieee.{Float}
 use lib.ListN.{length, length-append}
 use Rattle.model.specs.Lists.{concat}
 use Rattle.model.specs.Cost.{price, missed_cost}

@@ -2,14 +2,13 @@
 use Rattle.std.specs.Prelude.{◌≡◌, ℕ, ◌+◌, ◌≤◌, ◌<◌, List, [], ◌∷◌, Float, length, get_or}
 use Rattle.model.specs.declared.Prices.{Prices}
 use Rattle.model.specs.declared.Region.{Region}
-use Rattle.model.specs.Whole.{amount, IsWhole}
+use Rattle.model.specs.Whole.{amount}
 use Rattle.model.specs.Plan.{Plan, route_of, decode}
 use Rattle.model.specs.Region.{drained}
-use Rattle.model.specs.Legs.{leg_at, LegTable, Affordable}
-use Rattle.model.specs.Cost.{price}
+use Rattle.model.specs.Legs.{LegTable, Affordable}
 use Rattle.delivery.specs.Costs.{table_price, table_cost}
 use Rattle.rebuild_words.specs.Gaps.{regions_of, Gapped}
-use Rattle.rebuild_survey.specs.Surveys.{before_of, after_of, head_of, rest_of, Surveyed}
+use Rattle.rebuild_survey.specs.Surveys.{before_of, after_of, Surveyed}
 use Rattle.rebuild_fillings.specs.Walk.{stop_at}
 use Rattle.rebuild_ways.specs.declared.Ways.{Ways}
 use Rattle.rebuild_ways.specs.Table.{Filled}

@@ -7,7 +7,7 @@ use Rattle.model.specs.Legs.{leg_at}
 use Rattle.whole.proofs.Laws.{amount-is}
 use Rattle.rebuild_ways.specs.Exact.{IsExact, Wholly}
 use Rattle.rebuild_ways.specs.Ways.{cell_at}
-use Rattle.rebuild_ways.specs.Fills.{Roomy, leg_in, RowFilled, RowsFilled}
+use Rattle.rebuild_ways.specs.Fills.{leg_in, RowFilled, RowsFilled}
 use Rattle.rebuild_ways.proofs.Laws.{exact-whole}
 
 -- ---- one number is written

@@ -1,10 +1,10 @@
 -- What is known of the gaps is written gap by gap, and the whole table filled.
-use Rattle.std.proofs.Common.{◌≡◌, ℕ, suc, ◌+◌, ◌*◌, ◌≤◌, ◌<◌, List, length, get_or, set, refl, sym, ap, ap₂, ◌∙◌, subst, arith}
+use Rattle.std.proofs.Common.{◌≡◌, ℕ, ◌+◌, ◌*◌, ◌≤◌, ◌<◌, List, length, get_or, set, refl, sym, ap, ap₂, ◌∙◌, subst, arith}
 use lib.Ieee.{Float}
 use borrow.Author.Count.{below_more}
 use Rattle.model.specs.declared.Prices.{Prices}
 use Rattle.model.specs.Whole.{exact, whole, amount, IsWhole}
-use Rattle.model.specs.Legs.{leg_at, Affordable}
+use Rattle.model.specs.Legs.{Affordable}
 use Rattle.model.specs.Cost.{price}
 use Rattle.whole.proofs.Laws.{amount-is}
 use Rattle.distance.proofs.Laws.{leg-small}
