@@ -22,8 +22,11 @@ use Rattle.rebuild_survey.proofs.Surveys.{turn}
 use Rattle.rebuild_fillings.specs.Walk.{Filling, stop_at, plan_at}
 use Rattle.rebuild_fillings.specs.Rows.{Full}
 use Rattle.rebuild_tables.specs.Frame.{gap_count, drained_count, framed_plan, framed_regions, plan_by, Framing}
-use Rattle.rebuild_tables.specs.Ways.{vacant_at, prices_at, route_by, cost_by}
-use Rattle.rebuild_tables.specs.Table.{stops_from, Fillable, Filled, Grounded}
+use Rattle.rebuild_ways.specs.declared.Ways.{Ways}
+use Rattle.rebuild_ways.specs.Ways.{vacant_at, prices_at}
+use Rattle.rebuild_tables.specs.Ways.{route_by, cost_by}
+use Rattle.rebuild_ways.specs.Table.{Fillable, Filled}
+use Rattle.rebuild_tables.specs.Table.{stops_from, Grounded}
 use Rattle.rebuild_tables.specs.Walks.{FullIn}
 use Rattle.rebuild_tables.proofs.Frames.{drained-many}
 use Rattle.rebuild_tables.proofs.Costs.{measured-way, cost-by, short-by, small_by, job-by}
@@ -68,7 +71,7 @@ past-gaps k b gaps e i h =
     ∙ get_or-drop k (replicate b 0) (i - k) 0
     ∙ zeros-none b (k + (i - k))
 
-module _ (t : List ℕ) (v n : ℕ) (p : Prices) (xs regions f : List ℕ) (c : Float) (old : List Float) (T : Tableable t v n p xs regions f c old)
+module _ (t : List ℕ) (v n : ℕ) (p : Prices) (xs regions f : List ℕ) (c : Float) (T : Tableable t v n p xs regions f c)
     (gaps : List ℕ) (S : Surveyed t v xs regions gaps) (U : Unsurveyed regions (replicate 12 0) gaps) where
   abbrev P : Plan
   P = decode v xs
@@ -122,7 +125,7 @@ module _ (t : List ℕ) (v n : ℕ) (p : Prices) (xs regions f : List ℕ) (c : 
     all-gaps : k ≡ length gs
     all-gaps = omega (arith, T.plan.gapped.threes)
 
-    pub fillable : Fillable t p starts ends gaps k base old
+    pub fillable : Fillable t p starts ends gaps k base
     fillable = record {
       legs = T.plan.legs;
       affordable = T.plan.prices;
@@ -131,10 +134,9 @@ module _ (t : List ℕ) (v n : ℕ) (p : Prices) (xs regions f : List ℕ) (c : 
       few = omega (arith, all-gaps, T.plan.gapped.few);
       short = λ q h. gap-short q (omega (arith, all-gaps));
       known = B.known;
-      whole = T.whole;
     }
 
-    module _ (ways : List Float) (W : Filled t p starts ends gaps k base ways) where
+    module _ (ways : Ways) (W : Filled t p starts ends gaps k base ways) where
       grounded : Grounded t v n p xs regions gaps starts ends base ways
       grounded = record {
         legs = T.plan.legs;
@@ -176,7 +178,6 @@ module _ (t : List ℕ) (v n : ℕ) (p : Prices) (xs regions f : List ℕ) (c : 
       tells = record {
         tabled = record {
           framed = T.framing.framed;
-          whole = W.whole;
           prices = subst Affordable (sym W.priced) T.plan.prices;
           vacant = λ q h. vacant-route q (omega (arith, all-gaps, same-gaps xs v n regions f T.framing));
           short = short;

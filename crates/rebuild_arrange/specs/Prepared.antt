@@ -10,7 +10,9 @@ use Rattle.delivery.specs.Costs.{table_cost}
 use Rattle.rebuild_words.specs.Gaps.{regions_of}
 use Rattle.rebuild_fillings.specs.Walk.{Filling, empties}
 use Rattle.rebuild_tables.specs.Frame.{drained_count, plan_by, Framing}
-use Rattle.rebuild_tables.specs.Ways.{Wholly, vacant_at, prices_at, base_at, route_by, driven_by, cost_by}
+use Rattle.rebuild_ways.specs.declared.Ways.{Ways}
+use Rattle.rebuild_ways.specs.Ways.{vacant_at, prices_at, base_at}
+use Rattle.rebuild_tables.specs.Ways.{route_by, driven_by, cost_by}
 use Rattle.rebuild_tables.specs.Table.{gap_driving}
 use Rattle.rebuild_tables.specs.Walks.{FullIn, Tabled, Priced}
 use Rattle.rebuild_arrange.specs.Arranged.{Arrangeable}
@@ -33,12 +35,11 @@ pub record EndsOf (f known : List ℕ) (side : ℕ) (r : List ℕ) : Type 0 wher
   pub small : (i : ℕ) → get_or r i 0 < 80
 
 -- what all but the first gap's route costs where p gaps are empty, and so many drained stops are left
-abbrev pub beside_first : List Float → ℕ → ℕ → ℕ
+abbrev pub beside_first : Ways → ℕ → ℕ → ℕ
 beside_first ways p m = base_at ways + (driven_by ways 1 (empties (p - 1)) + missed_cost (prices_at ways) m)
 
 -- what is asked to add that up
-pub record Addable (ways : List Float) (p m : ℕ) (c : Prices) : Type 0 where
-  pub whole : Wholly ways
+pub record Addable (ways : Ways) (p m : ℕ) (c : Prices) : Type 0 where
   pub affordable : Affordable c
   pub prices : prices_at ways ≡ c
   pub some : 1 ≤ p
@@ -48,15 +49,14 @@ pub record Addable (ways : List Float) (p m : ℕ) (c : Prices) : Type 0 where
   pub small : beside_first ways p m ≤ exact
 
 -- what is asked to fill the table of ways of a framed plan, which costs so much
-pub record Tableable (t : List ℕ) (v n : ℕ) (p : Prices) (xs regions f : List ℕ) (c : Float) (ways : List Float) : Type 0 where
+pub record Tableable (t : List ℕ) (v n : ℕ) (p : Prices) (xs regions f : List ℕ) (c : Float) : Type 0 where
   pub plan : Arrangeable t v n p xs regions
   pub framing : Framing xs v n regions f
   pub near : (i : ℕ) → i < 24 → 16 < i → get_or f i 0 < 64
   pub cost : c ≡ whole (table_cost t p n (decode v xs))
-  pub whole : Wholly ways
 
 -- the table tells the routes and the costs of all arrangements of the frame
-pub record Tells (t : List ℕ) (v n : ℕ) (p : Prices) (f : List ℕ) (ways : List Float) : Type 0 where
+pub record Tells (t : List ℕ) (v n : ℕ) (p : Prices) (f : List ℕ) (ways : Ways) : Type 0 where
   pub tabled : Tabled ways f
   pub prices : prices_at ways ≡ p
   pub costs : (xs : Filling) → FullIn f xs → cost_by ways (drained_count f) xs ≡ table_cost t p n (plan_by f xs)

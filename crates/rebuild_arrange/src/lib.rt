@@ -10,8 +10,8 @@ ghost use Rattle.rebuild_arrange.specs.Prepared.{Based, Endable, EndsOf, beside_
 
 use model::{Prices, Walk};
 use rebuild_frame::BEFORE_FIRST;
-use rebuild_walk::{BEST, CALLS, MOST};
-use rebuild_ways::{GAP, USED};
+use rebuild_tables::Kept;
+use rebuild_ways::{GAP, USED, Ways};
 
 // What a plan that costs so much costs without the routes of its regions.
 fn base_of(
@@ -45,33 +45,29 @@ fn ends_of(frame: &[u32; 104], gaps: &[u32; 12], side: usize) -> [u32; 16]
     ensures { EndsOf frame.now gaps.now side result }
 {
     let mut ends = [0u32; 16];
-    let mut i = 1;
-    while i < USED {
+    for i in 1..USED {
         if i < GAP {
             ends[i] = frame[BEFORE_FIRST + i];
         } else {
             ends[i] = gaps[4 * (i - GAP) + side];
         }
-        i += 1;
     }
     ends
 }
 
 // What all but the first gap's route costs with p gaps empty and all of the m drained stops left.
-fn others_of(ways: &[f64; 272], p: usize, m: u32, prices: Prices) -> f64
+fn others_of(ways: &Ways, p: usize, m: u32, prices: Prices) -> f64
     requires { Addable ways.now p m prices }
     ensures { result ≡ whole (beside_first ways.now p m) }
 {
-    let mut sum = rebuild_ways::base(ways) + delivery::missed_cost(m, prices);
-    let mut q = 1;
-    while q < p {
-        sum = sum + rebuild_ways::vacant(ways, q);
-        q += 1;
+    let mut sum = ways.base() + delivery::missed_cost(m, prices);
+    for q in 1..p {
+        sum += ways.vacant(q);
     }
     sum
 }
 
-// Fills the table of ways of a framed plan, which costs so much.
+// The table of ways of a framed plan, which costs so much.
 fn table_ways(
     legs: &[u32],
     v: usize,
@@ -81,26 +77,16 @@ fn table_ways(
     regions: &[u32],
     frame: &[u32; 104],
     cost: f64,
-    ways: &mut [f64; 272],
-)
-    requires { Tableable legs.now v n prices plan.now regions.now frame.now cost ways.old }
-    ensures { Tells legs.now v n prices frame.now ways.new }
+) -> Ways
+    requires { Tableable legs.now v n prices plan.now regions.now frame.now cost }
+    ensures { Tells legs.now v n prices frame.now result }
 {
     let mut gaps = [0u32; 12];
     rebuild_survey::survey(legs, plan, v, n, regions, &mut gaps);
     let base = base_of(legs, v, n, prices, plan, regions, cost);
     let starts = ends_of(frame, &gaps, 0);
     let ends = ends_of(frame, &gaps, 1);
-    rebuild_ways::fill(
-        legs,
-        prices,
-        &starts,
-        &ends,
-        &gaps,
-        regions.len() / 3,
-        base,
-        ways,
-    );
+    Ways::filled(legs, prices, &starts, &ends, &gaps, regions.len() / 3, base)
 }
 
 // Walks all arrangements of one region or more of a plan that costs so much, and writes the best.
@@ -120,22 +106,16 @@ fn arrange_gaps(
 {
     let mut frame = [0u32; 104];
     let own = rebuild_frame::fill(&mut frame, plan, v, n, regions);
-    let mut ways = [0.0; 272];
-    table_ways(legs, v, n, prices, plan, regions, &frame, cost, &mut ways);
+    let ways = table_ways(legs, v, n, prices, plan, regions, &frame, cost);
     let p = rebuild_frame::gaps(&frame);
     let others = others_of(&ways, p, rebuild_frame::drained(&frame), prices);
-    let mut kept = [0u64; 6];
-    kept[BEST] = own;
-    kept[MOST] = rebuild_frame::placed(&frame) as u64;
+    let mut kept = Kept::new(own, rebuild_frame::placed(&frame) as u64);
     let found = rebuild_walk::visit(&ways, &frame, &mut kept, others, cost);
-    let word = kept[BEST];
-    rebuild_frame::plan_of(&frame, word, best);
-    let begun = kept[CALLS];
-    let completed = kept[CALLS - 1 + p];
+    rebuild_frame::plan_of(&frame, kept.best, best);
     Walk {
         cost: found,
-        begun,
-        completed,
+        begun: kept.calls[0],
+        completed: kept.calls[p - 1],
     }
 }
 

@@ -38,7 +38,9 @@ use Rattle.rebuild_words.proofs.Gaps.{region-at}
 use Rattle.rebuild_fillings.specs.Walk.{Filling, stop_at, named, plan_at}
 use Rattle.rebuild_fillings.specs.Rows.{Full}
 use Rattle.rebuild_fillings.proofs.Places.{in-up_from}
-use Rattle.rebuild_tables.specs.Ways.{way_at, prices_at, way_by, route_by, driven_by, cost_by}
+use Rattle.rebuild_ways.specs.declared.Ways.{Ways}
+use Rattle.rebuild_ways.specs.Ways.{way_at, prices_at}
+use Rattle.rebuild_tables.specs.Ways.{way_by, route_by, driven_by, cost_by}
 use Rattle.rebuild_tables.specs.Table.{gap_driving, stops_from, Grounded}
 use Rattle.rebuild_tables.proofs.Plans.{plan-wide, plan-placed, plan-below}
 
@@ -75,7 +77,7 @@ measured-way t k r from to g M y =
 -- ---- the routes that regions are on
 
 -- what they cost with other sequences in the regions; the first of them is gap q of the table
-module _ (t : List ℕ) (ways : List Float) (P : Plan) (f : ℕ → ℕ) where
+module _ (t : List ℕ) (ways : Ways) (P : Plan) (f : ℕ → ℕ) where
   driven-from : (gs : List Region) (fill : Filling) (q : ℕ) → Stretches P gs → length fill ≡ length gs
       → ((j i : ℕ) → i ≡ q + j → j < length gs
       → route_by ways i (get_or fill j [])
@@ -107,7 +109,7 @@ module _ (t : List ℕ) (ways : List Float) (P : Plan) (f : ℕ → ℕ) where
 abbrev pub PlacesTo : ℕ → List ℕ → Type 0
 PlacesTo m x = (i : ℕ) → 1 ≤ count i x → (1 ≤ i) × (i ≤ m)
 
-module _ (t : List ℕ) (v n : ℕ) (p : Prices) (xs regions gaps starts ends : List ℕ) (base : Float) (ways : List Float)
+module _ (t : List ℕ) (v n : ℕ) (p : Prices) (xs regions gaps starts ends : List ℕ) (base : Float) (ways : Ways)
     (G : Grounded t v n p xs regions gaps starts ends base ways) where
   abbrev P : Plan
   P = decode v xs
