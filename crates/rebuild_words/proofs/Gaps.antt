@@ -1,6 +1,6 @@
 -- The regions of vehicles, and the routes of the plan that a word stands for.
-use Prim.Native.Nat.{ℕ, zero, suc, ◌+◌, ◌/◌, ◌%◌, ◌≤◌, ◌<◌}
-use native.Mathlib.Nat.{le_of_suc-le-suc, add-zero}
+use Prim.Native.Nat.{ℕ, suc, ◌+◌, ◌/◌, ◌%◌, ◌≤◌, ◌<◌}
+use native.Mathlib.Nat.{add-zero}
 use native.Mathlib.Numerals.{add-one}
 use native.Mathlib.Omega.{arith}
 use mathlib.Core.Path.{◌≡◌, refl, sym, ap, ap₂, ◌∙◌, subst}
@@ -27,10 +27,6 @@ use Rattle.rebuild_words.specs.Gaps.{refilled, Within, Pasted}
 use Rattle.rebuild_words.proofs.Plans.{in-get_or, in-append, route-plan_of, other-plan_of}
 
 -- ---- the routes of the plan of a word
-
--- what a list of regions holds past its end
-abbrev pub none : Region
-none = record { vehicle = 0; from = 0; to = 0 }
 
 -- whether a region is of this vehicle
 abbrev pub is_of : ℕ → Region → Bool

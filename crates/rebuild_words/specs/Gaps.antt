@@ -12,6 +12,10 @@ pub record Gapped (v n : ℕ) (xs : List ℕ) (regions : List Region) : Type 0 w
   pub few : length regions ≤ 3
   pub stretches : Stretches (decode v xs) regions
 
+-- what stands past the end of a list of regions
+abbrev pub no_region : Region
+no_region = record { vehicle = 0; from = 0; to = 0 }
+
 -- the stretch that a region says lies within a route
 abbrev pub Within : Region → Route → Type 0
 Within g route = (g.from ≤ g.to) × (g.to ≤ length route)

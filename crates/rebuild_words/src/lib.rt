@@ -51,14 +51,7 @@ fn paste_region(
 }
 
 // Writes the plan that a word stands for: the given plan with what the word places in the regions in their place.
-pub fn compose(
-    plan: &[u32],
-    v: usize,
-    n: usize,
-    regions: &[Region],
-    word: &[u32],
-    to: &mut [u32],
-)
+pub fn compose(plan: &[u32], v: usize, n: usize, regions: &[Region], word: &[u32], to: &mut [u32])
     requires gapped { Gapped v n plan.now regions.now }
     requires to_len { (length to.old ≡ v + n) × (placed (plan_of (decode v plan.now) regions.now word.now) ≤ n) }
     ensures { to.new ≡ encode n (plan_of (decode v plan.now) regions.now word.now) }
