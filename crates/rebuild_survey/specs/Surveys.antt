@@ -10,6 +10,19 @@ use Rattle.rebuild_survey.specs.Ways.{Measured}
 abbrev pub gap_at : List Gap → ℕ → Gap
 gap_at gaps q = get_or gaps q (record { before = 0; after = 0; head = 0; rest = 0 })
 
+-- the places before and after it, the way to the one and the way on from the other
+abbrev pub before_of : List Gap → ℕ → ℕ
+before_of gaps q = (gap_at gaps q).before
+
+abbrev pub after_of : List Gap → ℕ → ℕ
+after_of gaps q = (gap_at gaps q).after
+
+abbrev pub head_of : List Gap → ℕ → ℕ
+head_of gaps q = (gap_at gaps q).head
+
+abbrev pub rest_of : List Gap → ℕ → ℕ
+rest_of gaps q = (gap_at gaps q).rest
+
 -- what is known of gap q is right
 abbrev pub Surveyed-at : List ℕ → ℕ → List ℕ → List Region → List Gap → ℕ → Type 0
 Surveyed-at t v xs regions gaps q =

@@ -3,6 +3,7 @@ use Rattle.std.specs.Prelude.{◌≡◌, Bool, true, false, ◌&&◌, ◌||◌, 
 use Rattle.model.specs.Lists.{lower}
 use Rattle.model.specs.StopSet.{stops_of}
 use Rattle.model.specs.Whole.{amount, IsWhole}
+use Rattle.rebuild_tables.specs.declared.Frame.{Frame}
 use Rattle.rebuild_tables.specs.Frame.{placed_count, form_of, Framed, Placeable}
 
 -- ---- what a walk keeps
@@ -48,11 +49,11 @@ abbrev pub prefers : ℕ → ℕ → List ℕ → ℕ → ℕ → List ℕ → B
 prefers a p x b q y = ltb a b || (eqb a b && prefers_tie p x q y)
 
 -- whether the arrangement of a word takes the best one's place
-abbrev pub wins : List ℕ → List ℕ → ℕ → ℕ → Float → Float → Bool
+abbrev pub wins : Frame → List ℕ → ℕ → ℕ → Float → Float → Bool
 wins f kept placed word cost best = prefers (amount cost) placed (form_of f word) (amount best) (most_placed kept) (form_of f (best_word kept))
 
 -- what is asked to compare the arrangement of a word with the best so far
-pub record Comparable (f kept : List ℕ) (word : ℕ) (cost best : Float) : Type 0 where
+pub record Comparable (f : Frame) (kept : List ℕ) (word : ℕ) (cost best : Float) : Type 0 where
   pub long : length kept ≡ 6
   pub framed : Framed f
   pub own : Placeable f word
@@ -61,11 +62,11 @@ pub record Comparable (f kept : List ℕ) (word : ℕ) (cost best : Float) : Typ
   pub before : IsWhole best
 
 -- the stops that are on a route where those of a set are not
-abbrev pub placed_with : List ℕ → ℕ → ℕ
+abbrev pub placed_with : Frame → ℕ → ℕ
 placed_with f left = placed_count f - length (stops_of left)
 
 -- The arrangement of a word, with the stops of a set left, was met: it is noted in the trail, and it is the best where it wins.
-pub record Met (f : List ℕ) (left word : ℕ) (cost best : Float) (before after : List ℕ) (r : Float) : Type 0 where
+pub record Met (f : Frame) (left word : ℕ) (cost best : Float) (before after : List ℕ) (r : Float) : Type 0 where
   pub long : length after ≡ 6
   pub noted : trail after ≡ trail_with (trail before) word
   pub counts : (i : ℕ) → i < 3 → calls_in after i ≡ calls_in before i

@@ -5,6 +5,7 @@ use Rattle.model.specs.Lists.{lower}
 use Rattle.model.specs.StopSet.{stops_of}
 use Rattle.model.specs.Whole.{amount}
 use Rattle.model.proofs.Order.{both}
+use Rattle.rebuild_tables.specs.declared.Frame.{Frame}
 use Rattle.rebuild_tables.specs.Frame.{placed_count, form_of}
 use Rattle.rebuild_tables.specs.Meeting.{best_word, most_placed, trail, wrapped, trail_with, prefers_tie, wins, Comparable, placed_with, Met}
 
@@ -14,7 +15,7 @@ or-none : (b : Bool) → b ≡ (b || false)
 or-none true = refl
 or-none false = refl
 
-module _ (f kept : List ℕ) (placed word : ℕ) where
+module _ (f : Frame) (kept : List ℕ) (placed word : ℕ) where
   abbrev tie : Bool
   tie = prefers_tie placed (form_of f word) (most_placed kept) (form_of f (best_word kept))
 
@@ -57,7 +58,7 @@ pub trail_is : (t w a b c : ℕ) → a ≡ wrapped t t → b ≡ wrapped a t →
 unfolding trail_with
 trail_is t w a b c ea eb ec = ec ∙ ap (λ (x : ℕ). wrapped x w) (eb ∙ ap (λ (x : ℕ). wrapped x t) ea)
 
-module _ (f kept : List ℕ) (left word : ℕ) (cost best : Float) (c : Comparable f kept word cost best) (t : ℕ) (et : t ≡ trail_with (trail kept) word) where
+module _ (f : Frame) (kept : List ℕ) (left word : ℕ) (cost best : Float) (c : Comparable f kept word cost best) (t : ℕ) (et : t ≡ trail_with (trail kept) word) where
   abbrev pub noted : List ℕ
   noted = set kept 5 t
 

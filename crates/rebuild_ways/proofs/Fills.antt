@@ -15,6 +15,7 @@ use Rattle.model.specs.Cost.{price}
 use Rattle.whole.proofs.Laws.{amount-is}
 use Rattle.distance.proofs.Laws.{leg-small}
 use Rattle.delivery.proofs.Laws.{price-small}
+use Rattle.rebuild_survey.specs.declared.Gap.{Gap}
 use Rattle.rebuild_survey.specs.Surveys.{head_of, rest_of}
 use Rattle.rebuild_tables.specs.Ways.{cell_at, Wholly, way_at, own_at, vacant_at, prices_at}
 use Rattle.rebuild_tables.specs.Table.{Fillable, Filled}
@@ -146,7 +147,7 @@ prices-filled p base x ways A B R e =
 -- ---- what is known of the gaps
 
 -- the legs and the prices stay
-module _ (gaps : List ℕ) (m : ℕ) (before ways : List Float) (few : m ≤ 3) (G : GapsFilled gaps m before ways) where
+module _ (gaps : List Gap) (m : ℕ) (before ways : List Float) (few : m ≤ 3) (G : GapsFilled gaps m before ways) where
   low : (i : ℕ) → i < 256 → cell_at ways i ≡ cell_at before i
   low i h = G.written.kept i (λ o. ⊎_elim (λ e. omega arith) (λ e. omega arith) o.2)
 
@@ -156,7 +157,7 @@ module _ (gaps : List ℕ) (m : ℕ) (before ways : List Float) (few : m ≤ 3) 
   same-prices : prices_at ways ≡ prices_at before
   same-prices = alike (prices_at before) _ _ _ (high 264 (omega arith)) (high 265 (omega arith)) (high 266 (omega arith))
 
-module _ (gaps : List ℕ) (p : ℕ) (before : List Float) (F : GapsFillable gaps p before) where
+module _ (gaps : List Gap) (p : ℕ) (before : List Float) (F : GapsFillable gaps p before) where
   pub gaps-begin : GapsFilled gaps 0 before before
   gaps-begin =
       record {
@@ -241,7 +242,7 @@ module _ (gaps : List ℕ) (p : ℕ) (before : List Float) (F : GapsFillable gap
 
 -- ---- the whole table
 
-module _ (t : List ℕ) (prices : Prices) (starts ends gaps : List ℕ) (p : ℕ) (base : Float) (w₀ w₁ w₂ : List Float)
+module _ (t : List ℕ) (prices : Prices) (starts ends : List ℕ) (gaps : List Gap) (p : ℕ) (base : Float) (w₀ w₁ w₂ : List Float)
     (F : Fillable t prices starts ends gaps p base w₀) (R : RowsFilled t starts ends 11 w₀ w₁) (P : PricesFilled prices base w₁ w₂) where
   -- what is read of the rows
   way : (r c : ℕ) → r < 11 → c < 11 → way_at w₂ r c ≡ leg_at t (get_or starts r 0) (get_or ends c 0)

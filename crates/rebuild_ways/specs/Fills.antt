@@ -4,6 +4,7 @@ use Rattle.model.specs.declared.Prices.{Prices}
 use Rattle.model.specs.Whole.{amount}
 use Rattle.model.specs.Legs.{leg_at, Affordable}
 use Rattle.model.specs.Cost.{price}
+use Rattle.rebuild_survey.specs.declared.Gap.{Gap}
 use Rattle.rebuild_survey.specs.Surveys.{head_of, rest_of}
 use Rattle.rebuild_tables.specs.Ways.{cell_at, Wholly, way_at, own_at, vacant_at, prices_at, base_at}
 
@@ -50,7 +51,7 @@ pub record PricesFilled (prices : Prices) (base : Float) (before after : List Fl
   pub rest : base_at after ≡ amount base
 
 -- what is asked to write what is known of p gaps: their routes are short enough for an exact price
-pub record GapsFillable (gaps : List ℕ) (p : ℕ) (ways : List Float) : Type 0 where
+pub record GapsFillable (gaps : List Gap) (p : ℕ) (ways : List Float) : Type 0 where
   pub roomy : Roomy ways
   pub affordable : Affordable (prices_at ways)
   pub few : p ≤ 3
@@ -58,7 +59,7 @@ pub record GapsFillable (gaps : List ℕ) (p : ℕ) (ways : List Float) : Type 0
   pub leg : (q : ℕ) → q < p → way_at ways (8 + q) (8 + q) ≤ 200000
 
 -- what is known of the first m gaps is written
-pub record GapsFilled (gaps : List ℕ) (m : ℕ) (before after : List Float) : Type 0 where
+pub record GapsFilled (gaps : List Gap) (m : ℕ) (before after : List Float) : Type 0 where
   pub written : Written (InGaps m) before after
   pub own : (q : ℕ) → q < m → own_at after q ≡ head_of gaps q + rest_of gaps q
   pub vacant : (q : ℕ) → q < m

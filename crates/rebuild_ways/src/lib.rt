@@ -10,6 +10,7 @@ ghost use Rattle.rebuild_tables.specs.Table.{Ends, Fillable, Filled};
 ghost use Rattle.rebuild_ways.specs.Fills.{Roomy, RowFilled, RowsFilled, PricesFilled, GapsFillable, GapsFilled};
 
 use model::Prices;
+use rebuild_survey::Gap;
 
 // Where the numbers stand: the legs in rows of 16, of which the first 11 are used, and behind them what is known of each gap, the prices,
 // and what all else costs.
@@ -126,13 +127,13 @@ fn fill_prices(prices: Prices, base: f64, ways: &mut [f64])
 }
 
 // Writes what is known of each gap: the length of its route without what fills the gap, and what the route costs so.
-fn fill_gaps(gaps: &[u32; 12], p: usize, ways: &mut [f64; 272])
+fn fill_gaps(gaps: &[Gap; 3], p: usize, ways: &mut [f64; 272])
     requires { GapsFillable gaps.now p ways.old }
     ensures { GapsFilled gaps.now p ways.old ways.new }
 {
     let mut q = 0;
     while q < p {
-        let own = (gaps[4 * q + 2] + gaps[4 * q + 3]) as f64;
+        let own = (gaps[q].head + gaps[q].rest) as f64;
         let vacant = closed(ways, q, GAP + q, own);
         ways[OWN + q] = own;
         ways[VACANT + q] = vacant;
@@ -146,7 +147,7 @@ pub fn fill(
     prices: Prices,
     starts: &[u32; 16],
     ends: &[u32; 16],
-    gaps: &[u32; 12],
+    gaps: &[Gap; 3],
     p: usize,
     base: f64,
     ways: &mut [f64; 272],

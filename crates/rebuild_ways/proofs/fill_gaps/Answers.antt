@@ -10,8 +10,8 @@ loop-q-init c =
     let a = c.args in
     (omega arith, c.requires.few, gaps-begin a.gaps.now a.p a.ways.now c.requires)
 
-pub overflow_add-own-in-loop-q-2 : goal.overflow_add-own-in-loop-q-2
-overflow_add-own-in-loop-q-2 c =
+pub overflow_add-own : goal.overflow_add-own
+overflow_add-own c =
     omega (arith, c.requires.short c.loop-q.q c.loop-q-test.true)
 
 pub closed-vacant-requires : goal.closed-vacant-requires
