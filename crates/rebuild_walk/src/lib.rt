@@ -11,6 +11,8 @@ ghost use Rattle.rebuild_tables.specs.Frame.{placed_count, form_of, Framed, Plac
 ghost use Rattle.rebuild_tables.specs.Meeting.{best_word, most_placed, calls_in, prefers_tie, trail_with, wins, Comparable, Met};
 ghost use Rattle.rebuild_tables.specs.Walks.{Walkable, Walked, Visitable, Visited};
 
+use rebuild_tables::Frame;
+
 // What a walk keeps: the word of the best arrangement, the stops that this places, how often it was called in each gap, and the trail of the
 // words that it met. So the calls in the first gap are the fillings of it that were begun, and those in the last gap the arrangements
 // completed; and the trail is a number that tells in which order these were met.
@@ -23,7 +25,7 @@ pub const CALLS: usize = 2;
 const TRAIL: usize = 5;
 
 // Whether an arrangement that costs what the best one does, and places so many stops, takes its place.
-fn wins_tie(frame: &[u32; 104], kept: &[u64; 6], placed: u64, word: u64) -> bool
+fn wins_tie(frame: &Frame, kept: &[u64; 6], placed: u64, word: u64) -> bool
     requires { Framed frame.now × Placeable frame.now word × Placeable frame.now (best_word kept.now) }
     ensures { result ≡ prefers_tie placed (form_of frame.now word) (most_placed kept.now) (form_of frame.now (best_word kept.now)) }
 {
@@ -37,7 +39,7 @@ fn wins_tie(frame: &[u32; 104], kept: &[u64; 6], placed: u64, word: u64) -> bool
 
 // Whether the arrangement of a word takes the best one's place. Nearly all cost more.
 fn is_better(
-    frame: &[u32; 104],
+    frame: &Frame,
     kept: &[u64; 6],
     placed: u64,
     word: u64,
@@ -66,7 +68,7 @@ fn trail_with(trail: u64, word: u64) -> u64
 }
 
 // Meets the arrangement of a word, with these stops left: the better of it and the best so far is kept, and its cost returned.
-fn meet(frame: &[u32; 104], kept: &mut [u64; 6], left: u64, word: u64, cost: f64, best: f64) -> f64
+fn meet(frame: &Frame, kept: &mut [u64; 6], left: u64, word: u64, cost: f64, best: f64) -> f64
     requires { Comparable frame.now kept.old word cost best × (length (stops_of left) ≤ placed_count frame.now) }
     ensures { Met frame.now left word cost best kept.old kept.new result }
 {
@@ -103,7 +105,7 @@ fn with_digit(word: u64, digit: u64) -> u64
 // stands and behind the gap, `others` what all else costs.
 fn walk(
     ways: &[f64; 272],
-    frame: &[u32; 104],
+    frame: &Frame,
     kept: &mut [u64; 6],
     q: usize,
     left: u64,
@@ -145,7 +147,7 @@ fn walk(
 // empty, and `best` the cost of the plan whose word is kept.
 pub fn visit(
     ways: &[f64; 272],
-    frame: &[u32; 104],
+    frame: &Frame,
     kept: &mut [u64; 6],
     others: f64,
     best: f64,
