@@ -83,6 +83,7 @@ pub fn regions_of(plan: &[u32], v: usize, n: usize, picks: &[u32], out: &mut [Re
     requires picks_len_bound { (length picks.now ≤ 2) × (2 ≤ length out.old) }
     ensures out_after { take result out.new ≡ regions (decode v plan.now) picks.now }
     ensures out_unchanged { drop result out.new ≡ drop result out.old }
+    ensures upper_bound { result ≤ length picks.now }
 {
     let mut kept = [0u32; 2];
     let p = keep_picks(plan, v, n, picks, &mut kept);

@@ -18,6 +18,7 @@ returns-then-p-eq0 c =
       out_after = written-none-kept (decode c.args.v c.args.plan.now) c.args.picks.now k.new.kept k.result k.ensures.kept_after (room (goal.at.returns-then-p-eq0 c).After-keep_picks-p)
           c.args.out.now c.if-p-eq0.true;
       out_unchanged = refl;
+      upper_bound = omega arith;
     }
 
 pub loop-i-init : goal.loop-i-init
@@ -50,4 +51,4 @@ returns c =
     let k = c.keep_picks-p in
     let l = c.loop-i in
     let parts = written_all (decode c.args.v c.args.plan.now) c.args.picks.now k.new.kept k.result k.ensures.kept_after (room (goal.at.returns c).After-keep_picks-p)
-    _ c.args.out.now l.out l.i refl (omega arith) l.invariant in record { out_after = parts.0; out_unchanged = parts.1 }
+    _ c.args.out.now l.out l.i refl (omega arith) l.invariant in record { out_after = parts.0; out_unchanged = parts.1; upper_bound = k.ensures.upper_bound }
