@@ -16,7 +16,6 @@ use Rattle.model.specs.StopSet.{stops_of, excluding}
 use Rattle.model.specs.Whole.{whole, amount}
 use Rattle.model.specs.Job.{Job}
 use Rattle.model.specs.Plan.{Plan, placed, encode}
-use Rattle.model.specs.Cost.{cost}
 use Rattle.model.specs.Rebuild.{better, choose}
 use Rattle.model.proofs.Lists.{tested, one_same, one-other, map-append, concat-append}
 use Rattle.whole.proofs.Laws.{amount-is}
@@ -36,7 +35,7 @@ use Rattle.rebuild_tables.specs.Meeting.{best_word, most_placed, calls_in, trail
 use Rattle.rebuild_tables.specs.Walks.{FullIn, later, Here, best_plan, Held, Walkable, met_from, plans_met, Priced, Walked}
 use Rattle.rebuild_fillings.proofs.Places.{standing-size}
 use Rattle.rebuild_tables.proofs.Frames.{framed-placed}
-use Rattle.rebuild_tables.proofs.Weights.{padded, padded-is, done_next, here-next, stop-small, here-stop}
+use Rattle.rebuild_tables.proofs.Weights.{padded, padded-is, done_next, here-next, stop-small}
 
 -- the stops left
 abbrev size : ℕ → ℕ

@@ -38,14 +38,7 @@ fn wins_tie(frame: &Frame, kept: &[u64; 6], placed: u64, word: u64) -> bool
 }
 
 // Whether the arrangement of a word takes the best one's place. Nearly all cost more.
-fn is_better(
-    frame: &Frame,
-    kept: &[u64; 6],
-    placed: u64,
-    word: u64,
-    cost: f64,
-    best: f64,
-) -> bool
+fn is_better(frame: &Frame, kept: &[u64; 6], placed: u64, word: u64, cost: f64, best: f64) -> bool
     requires { Comparable frame.now kept.now word cost best }
     ensures { result ≡ wins frame.now kept.now placed word cost best }
 {
@@ -145,13 +138,7 @@ fn walk(
 
 // Walks all arrangements of the frame's drained stops in its gaps. `others` is what all but the first gap's route costs where every gap is
 // empty, and `best` the cost of the plan whose word is kept.
-pub fn visit(
-    ways: &[f64; 272],
-    frame: &Frame,
-    kept: &mut [u64; 6],
-    others: f64,
-    best: f64,
-) -> f64
+pub fn visit(ways: &[f64; 272], frame: &Frame, kept: &mut [u64; 6], others: f64, best: f64) -> f64
     requires { Visitable ways.now frame.now kept.old others best }
     ensures { Visited ways.now frame.now kept.old kept.new result }
 {

@@ -1,4 +1,4 @@
-use Rattle.std.proofs.Common.{length, ℕ, pos_of_ne-zero, arith}
+use Rattle.std.proofs.Common.{ℕ, pos_of_ne-zero, arith}
 use Rattle.rebuild_tables.proofs.Weights.{len_whole, closed-short, step_small}
 use Rattle.rebuild_tables.proofs.Steps.{Opened, gap-low, word_below, count-below, looping-start, looping-end, in_left, turn_small, fewer-less, rest-less}
 use Rattle.rebuild_walk.proofs.Counted.{next-call, next-opened, met-asked, met-opened, stop-call, stop-again}
