@@ -2,13 +2,23 @@
 use Prim.Native.Nat.{ℕ, suc, ◌+◌, ◌-◌, ◌*◌, ◌^◌, ◌≤◌, ◌<◌}
 use native.Mathlib.Omega.{arith}
 use mathlib.Core.Path.{◌≡◌, refl, sym, ap, ap₂, ◌∙◌}
-use mathlib.Core.List.{List, [], ◌∷◌}
+use mathlib.Core.List.{List, [], ◌∷◌, append_assoc}
+use native.Mathlib.Numerals.{add-one}
 use lib.ListN.{length, get_or, set}
-use lib.Seq.{paste, paste-zero}
+use lib.Seq.{paste, paste-zero, paste-suc, take-length}
 use Rattle.model.specs.Lists.{up_from}
-use Rattle.pasting.proofs.Put.{turn, pasted}
+use Rattle.pasting.specs.Put.{put}
 use Rattle.rebuild_fillings.specs.Rows.{number_from}
 use Rattle.rebuild_frame.specs.Listing.{gap_digits, Listable, GapListed}
+
+-- a turn's store takes the copy of i elements of s to the copy of i + 1
+turn : (d dst s : List ℕ) (at i x : ℕ) → dst ≡ paste d at s i → at + i < length d → i < length s → x ≡ get_or s i 0
+    → set dst (at + i) x ≡ paste d at s (i + 1)
+turn d dst s at i x e hd hs ex = rw (e, ex, add-one) (paste-suc d at s i 0 hd hs)
+
+-- the copy of all elements is the whole
+pasted : (d dst s : List ℕ) (at i : ℕ) → dst ≡ paste d at s i → i ≡ length s → dst ≡ put d at s
+pasted d dst s at i e h = rw (e, h, take-length, append_assoc)
 
 -- ---- one gap
 
