@@ -20,11 +20,11 @@ use Rattle.model.proofs.Order.{better-self}
 use Rattle.model.proofs.PlanForm.{decode-encode, lent_length}
 use Rattle.model.proofs.Fillings.{none-counted}
 use Rattle.delivery.specs.Costs.{table_cost, Costs}
-use Rattle.rebuild_words.specs.Gaps.{regions_of}
 use Rattle.rebuild_fillings.specs.Walk.{Filling, empties, own, plan_at}
 use Rattle.rebuild_fillings.specs.Rows.{word_of, filling_of, Full}
 use Rattle.rebuild_fillings.proofs.Places.{own-plan, standing-start}
 use Rattle.rebuild_fillings.proofs.Full.{full-worded, own-full, padded-full}
+use Rattle.rebuild_tables.specs.declared.Frame.{Frame}
 use Rattle.rebuild_tables.specs.Frame.{gap_count, placed_count, drained_count, framed_plan, framed_regions, plan_by, form_of, Placeable, Framing}
 use Rattle.rebuild_ways.specs.declared.Ways.{Ways}
 use Rattle.rebuild_ways.specs.Ways.{prices_at}
@@ -39,14 +39,14 @@ use Rattle.rebuild_arrange.specs.Arranged.{Arrangeable, Arranged}
 use Rattle.rebuild_arrange.specs.Prepared.{beside_first, Addable, Tells}
 use Rattle.rebuild_arrange.proofs.Tables.{same-plan, same-regions, same-gaps, same-drained}
 
-module _ (t : List ℕ) (v n : ℕ) (p : Prices) (xs regions : List ℕ) (A : Arrangeable t v n p xs regions) where
+module _ (t : List ℕ) (v n : ℕ) (p : Prices) (xs : List ℕ) (regions : List Region) (A : Arrangeable t v n p xs regions) where
   abbrev P : Plan
   P = decode v xs
 
   abbrev gs : List Region
-  gs = regions_of regions
+  gs = regions
 
-  module _ (f : List ℕ) (F : Framing xs v n regions f) (ways : Ways) (T : Tells t v n p f ways) where
+  module _ (f : Frame) (F : Framing xs v n regions f) (ways : Ways) (T : Tells t v n p f ways) where
     abbrev k : ℕ
     k = gap_count f
 
@@ -186,7 +186,7 @@ module _ (t : List ℕ) (v n : ℕ) (p : Prices) (xs regions : List ℕ) (A : Ar
         met = ec ∙ sym (ap (completed P) g ∙ (none-counted P).1);
       }
     where
-      no-regions : (rs : List ℕ) → length rs ≡ 0 → regions_of rs ≡ []
+      no-regions : (rs : List Region) → length rs ≡ 0 → rs ≡ []
       no-regions [] h = refl
       no-regions (x ∷ rs) h = absurd (omega arith)
 

@@ -22,7 +22,7 @@ pub record Listing (old part : List ℕ) (c w i : ℕ) (frame : List ℕ) (count
   pub up_to : i ≤ length part
   pub number : count ≡ c + i
   pub says : number_from word (up_from (c + i + 1) (length part - i)) ≡ number_from w (up_from (c + 1) (length part))
-  pub holds : frame ≡ paste old (17 + c) part i
+  pub holds : frame ≡ paste old (1 + c) part i
 
 module _ (old part : List ℕ) (q c w : ℕ) (L : Listable old q part c w) where
   -- the word with the gap opened
@@ -43,7 +43,7 @@ module _ (old part : List ℕ) (q c w : ℕ) (L : Listable old q part c w) where
         up_to = omega arith;
         number = omega arith;
         says = ap₂ (λ a b. number_from opened (up_from a b)) e z;
-        holds = paste-zero old (17 + c) part;
+        holds = paste-zero old (1 + c) part;
       }
 
   module _ (i : ℕ) (frame : List ℕ) (count word : ℕ) (l : Listing old part c opened i frame count word) where
@@ -69,15 +69,15 @@ module _ (old part : List ℕ) (q c w : ℕ) (L : Listable old q part c w) where
             L.fits,
           )
 
-      pub listing-more : Listing old part c opened (i + 1) (set frame (16 + (count + 1)) (get_or part i 0)) (count + 1) (word * 16 + (count + 1))
+      pub listing-more : Listing old part c opened (i + 1) (set frame (count + 1) (get_or part i 0)) (count + 1) (word * 16 + (count + 1))
       listing-more =
-          let e : 16 + (count + 1) ≡ 17 + c + i = omega (arith, l.number) in
+          let e : count + 1 ≡ 1 + c + i = omega (arith, l.number) in
           record {
             up_to = omega arith;
             number = omega (arith, l.number);
             says = digit;
             holds =
-                ap (λ k. set frame k (get_or part i 0)) e ∙ turn old frame part (17 + c) i (get_or part i 0) l.holds (omega (arith, L.long, L.room)) h refl;
+                ap (λ k. set frame k (get_or part i 0)) e ∙ turn old frame part (1 + c) i (get_or part i 0) l.holds (omega (arith, L.long, L.room)) h refl;
           }
 
     pub listed : length part ≤ i → GapListed old q part c w frame count word
@@ -87,5 +87,5 @@ module _ (old part : List ℕ) (q c w : ℕ) (L : Listable old q part c w) where
         record {
           number = omega (arith, l.number);
           says = sym (ap (λ k. number_from word (up_from (c + i + 1) k)) z) ∙ l.says ∙ whole;
-          holds = pasted old frame part (17 + c) i l.holds e;
+          holds = pasted old frame part (1 + c) i l.holds e;
         }

@@ -24,6 +24,7 @@ use Rattle.rebuild_fillings.proofs.Calls.{call_count-on, call_count-small}
 use Rattle.rebuild_fillings.proofs.Places.{placed-all, standing-start}
 use Rattle.rebuild_fillings.proofs.Rows.{word-start}
 use Rattle.rebuild_fillings.proofs.Reading.{reached-start, read_done, read_here}
+use Rattle.rebuild_tables.specs.declared.Frame.{Frame}
 use Rattle.rebuild_tables.specs.Frame.{gap_count, drained_count, framed_plan, framed_regions, plan_by}
 use Rattle.rebuild_ways.specs.declared.Ways.{Ways}
 use Rattle.rebuild_ways.specs.Ways.{own_at}
@@ -39,7 +40,7 @@ use Rattle.rebuild_tables.proofs.Frames.{drained-many}
 pub all-places : (m d all left : ℕ) → d ≡ m → stops_of all ≡ up_from 0 (d + 1) → left ≡ excluding 0 all → stops_of left ≡ up_from 1 m
 all-places m d all left ed a e = ap stops_of e ∙ stops-excluding 0 all ∙ ap (without 0) (a ∙ ap (up_from 0) (add-one d)) ∙ ap (up_from 1) ed
 
-module _ (ways : Ways) (f : List ℕ) (kept : Kept) (others best : Float) (W : Visitable ways f kept others best) (left : ℕ)
+module _ (ways : Ways) (f : Frame) (kept : Kept) (others best : Float) (W : Visitable ways f kept others best) (left : ℕ)
     (e : stops_of left ≡ up_from 1 (drained_count f)) where
   abbrev p : ℕ
   p = gap_count f

@@ -28,6 +28,7 @@ use Rattle.rebuild_fillings.proofs.Calls.{call_count-step, call_count-before}
 use Rattle.rebuild_fillings.proofs.Plans.{choose-next, choose-last, choose-stop, choose-none}
 use Rattle.rebuild_fillings.proofs.Reading.{reached-below, stop-done, stop-here}
 use Rattle.rebuild_fillings.proofs.Full.{full-worded}
+use Rattle.rebuild_tables.specs.declared.Frame.{Frame}
 use Rattle.rebuild_tables.specs.Frame.{gap_count, placed_count, drained_count, plan_by, form_of, Placeable}
 use Rattle.rebuild_ways.specs.declared.Ways.{Ways}
 use Rattle.rebuild_tables.specs.Ways.{cost_by}
@@ -49,10 +50,10 @@ trail-append w [] b = refl
 trail-append w (x ∷ a) b = trail-append (trail_with w x) a b
 
 -- what is still to come in the loop
-abbrev met_on : List ℕ → ℕ → ℕ → ℕ → ℕ → List Filling
+abbrev met_on : Frame → ℕ → ℕ → ℕ → ℕ → List Filling
 met_on f q left word next = fillings_at (gap_count f) q (stops_of left) (done_of q word) (here_of q word) (stops_of next)
 
-abbrev plans_on : List ℕ → ℕ → ℕ → ℕ → ℕ → List Plan
+abbrev plans_on : Frame → ℕ → ℕ → ℕ → ℕ → List Plan
 plans_on f q left word next = plans_at (plan_by f) (gap_count f) q (stops_of left) (done_of q word) (here_of q word) (stops_of next)
 
 -- what a turn of the loop adds in gap r
@@ -60,14 +61,14 @@ abbrev turn : ℕ → ℕ → ℕ → ℕ
 turn r q left = call_count r q (size left - 1)
 
 -- the call is counted, and the next gap is walked or the arrangement met
-pub record Opened (ways : Ways) (f : List ℕ) (q left word : ℕ) (entry kept : Kept) (found : Float) : Type 0 where
+pub record Opened (ways : Ways) (f : Frame) (q left word : ℕ) (entry kept : Kept) (found : Float) : Type 0 where
   pub held : Held ways f kept found
   pub each : (r : ℕ) → r < gap_count f → calls_in kept r + size left * turn r q left ≡ calls_in entry r + call_count r q (size left)
   pub noted : trail_from kept.trail (map word_of (met_on f q left word left)) ≡ trail_from entry.trail (map word_of (met_from f q left word))
   pub chosen : (J : Job) → Priced J ways f → choose J (best_plan f kept) (plans_on f q left word left) ≡ choose J (best_plan f entry) (plans_met f q left word)
 
 -- the stops of `next` are still to come in gap q, of those that were left when the loop began
-pub record Looping (ways : Ways) (f : List ℕ) (q left word : ℕ) (start kept : Kept) (found : Float) (next : ℕ) : Type 0 where
+pub record Looping (ways : Ways) (f : Frame) (q left word : ℕ) (start kept : Kept) (found : Float) (next : ℕ) : Type 0 where
   pub held : Held ways f kept found
   pub within : (t : ℕ) → count t (stops_of next) ≤ count t (stops_of left)
   pub each : (r : ℕ) → r < gap_count f → calls_in kept r + size next * turn r q left ≡ calls_in start r + size left * turn r q left
@@ -86,7 +87,7 @@ counted-at q kept counted C h r = elim (tested q r) [
   | inr f ↦ rw C.calls (get_or-set_other kept.calls q r (calls_in kept q + 1) 0 (λ e. f.0 (sym e)) ∙ omega (arith, one-other q r f.0))
 ]
 
-module _ (ways : Ways) (f : List ℕ) (kept : Kept) (q left word : ℕ) (len others best : Float) (c : Walkable ways f kept q left word len others best) where
+module _ (ways : Ways) (f : Frame) (kept : Kept) (q left word : ℕ) (len others best : Float) (c : Walkable ways f kept q left word len others best) where
   abbrev p : ℕ
   p = gap_count f
 

@@ -3,6 +3,7 @@ use Rattle.std.specs.Prelude.{◌≡◌, Bool, true, false, ◌&&◌, ◌||◌, 
 use Rattle.model.specs.Lists.{lower}
 use Rattle.model.specs.StopSet.{stops_of}
 use Rattle.model.specs.Whole.{amount, IsWhole}
+use Rattle.rebuild_tables.specs.declared.Frame.{Frame}
 use Rattle.rebuild_tables.specs.declared.Kept.{Kept}
 use Rattle.rebuild_tables.specs.Frame.{placed_count, form_of, Framed, Placeable}
 
@@ -33,11 +34,11 @@ abbrev pub prefers : ℕ → ℕ → List ℕ → ℕ → ℕ → List ℕ → B
 prefers a p x b q y = ltb a b || (eqb a b && prefers_tie p x q y)
 
 -- whether the arrangement of a word takes the best one's place
-abbrev pub wins : List ℕ → Kept → ℕ → ℕ → Float → Float → Bool
+abbrev pub wins : Frame → Kept → ℕ → ℕ → Float → Float → Bool
 wins f kept placed word cost best = prefers (amount cost) placed (form_of f word) (amount best) kept.most (form_of f kept.best)
 
 -- what is asked to compare the arrangement of a word with the best so far
-pub record Comparable (f : List ℕ) (kept : Kept) (word : ℕ) (cost best : Float) : Type 0 where
+pub record Comparable (f : Frame) (kept : Kept) (word : ℕ) (cost best : Float) : Type 0 where
   pub framed : Framed f
   pub own : Placeable f word
   pub other : Placeable f kept.best
@@ -45,11 +46,11 @@ pub record Comparable (f : List ℕ) (kept : Kept) (word : ℕ) (cost best : Flo
   pub before : IsWhole best
 
 -- the stops that are on a route where those of a set are not
-abbrev pub placed_with : List ℕ → ℕ → ℕ
+abbrev pub placed_with : Frame → ℕ → ℕ
 placed_with f left = placed_count f - length (stops_of left)
 
 -- The arrangement of a word, with the stops of a set left, was met: it is noted in the trail, and it is the best where it wins.
-pub record Met (f : List ℕ) (left word : ℕ) (cost best : Float) (before after : Kept) (r : Float) : Type 0 where
+pub record Met (f : Frame) (left word : ℕ) (cost best : Float) (before after : Kept) (r : Float) : Type 0 where
   pub noted : after.trail ≡ trail_with before.trail word
   pub counts : after.calls ≡ before.calls
   pub taken : wins f before (placed_with f left) word cost best ≡ true

@@ -5,6 +5,7 @@ use Rattle.model.specs.StopSet.{stops_of, excluding}
 use Rattle.stop_set.specs.Answers.{First}
 use Rattle.model.specs.Whole.{whole, amount}
 use Rattle.model.specs.Cost.{price}
+use Rattle.rebuild_tables.specs.declared.Frame.{Frame}
 use Rattle.rebuild_tables.specs.Frame.{gap_count, placed_count}
 use Rattle.rebuild_ways.specs.declared.Ways.{Ways}
 use Rattle.rebuild_ways.specs.Ways.{way_at, own_at, vacant_at, prices_at}
@@ -15,7 +16,7 @@ use Rattle.rebuild_tables.specs.Walks.{Walkable, Walked}
 use Rattle.rebuild_tables.proofs.Weights.{cost-is, here-opened, here-stop}
 use Rattle.rebuild_tables.proofs.Steps.{Opened, Looping, call_next, opened-next, meet-asks, meet_left, opened-last, in_left, call-stop, looping-on}
 
-module _ (ways : Ways) (f : List ℕ) (kept : Kept) (q left word : ℕ) (len others best : Float) (c : Walkable ways f kept q left word len others best)
+module _ (ways : Ways) (f : Frame) (kept : Kept) (q left word : ℕ) (len others best : Float) (c : Walkable ways f kept q left word len others best)
     (counted : Kept) (ek : Counted q kept counted) (closed : Float)
     (ec : closed ≡ whole (price (prices_at ways) (amount len + way_at ways (word % 16) (8 + q)))) (g : ℕ) (eg : g ≡ gap_count f) where
   abbrev cost : Float
@@ -52,7 +53,7 @@ module _ (ways : Ways) (f : List ℕ) (kept : Kept) (q left word : ℕ) (len oth
         (cost-is ways f c.tabled q left word len others c.here closed ec) k found m
 
 -- one stop more: the call, and what comes of it
-module _ (ways : Ways) (f : List ℕ) (kept : Kept) (q left word : ℕ) (len others best : Float) (c : Walkable ways f kept q left word len others best)
+module _ (ways : Ways) (f : Frame) (kept : Kept) (q left word : ℕ) (len others best : Float) (c : Walkable ways f kept q left word len others best)
     (k₀ : Kept) (found₀ : Float) (o : Opened ways f q left word kept k₀ found₀) (k : Kept) (found : Float) (next : ℕ)
     (l : Looping ways f q left word k₀ k found next) (s rest fewer : ℕ) (first : First next s) (er : rest ≡ excluding s next)
     (ef : fewer ≡ excluding s left) (w : ℕ) (ew : w ≡ word * 16 + s) where

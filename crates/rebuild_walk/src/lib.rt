@@ -11,11 +11,11 @@ ghost use Rattle.rebuild_tables.specs.Frame.{placed_count, form_of, Framed, Plac
 ghost use Rattle.rebuild_tables.specs.Meeting.{prefers_tie, trail_with, wins, Comparable, Met};
 ghost use Rattle.rebuild_tables.specs.Walks.{Walkable, Walked, Visitable, Visited};
 
-use rebuild_tables::Kept;
+use rebuild_tables::{Frame, Kept};
 use rebuild_ways::Ways;
 
 // Whether an arrangement that costs what the best one does, and places so many stops, takes its place.
-fn wins_tie(frame: &[u32; 104], kept: &Kept, placed: u64, word: u64) -> bool
+fn wins_tie(frame: &Frame, kept: &Kept, placed: u64, word: u64) -> bool
     requires { Framed frame.now × Placeable frame.now word × Placeable frame.now kept.now.best }
     ensures { result ≡ prefers_tie placed (form_of frame.now word) kept.now.most (form_of frame.now kept.now.best) }
 {
@@ -23,7 +23,7 @@ fn wins_tie(frame: &[u32; 104], kept: &Kept, placed: u64, word: u64) -> bool
 }
 
 // Whether the arrangement of a word takes the best one's place. Nearly all cost more.
-fn is_better(frame: &[u32; 104], kept: &Kept, placed: u64, word: u64, cost: f64, best: f64) -> bool
+fn is_better(frame: &Frame, kept: &Kept, placed: u64, word: u64, cost: f64, best: f64) -> bool
     requires { Comparable frame.now kept.now word cost best }
     ensures { result ≡ wins frame.now kept.now placed word cost best }
 {
@@ -38,7 +38,7 @@ fn trail_with(trail: u64, word: u64) -> u64
 }
 
 // Meets the arrangement of a word, with these stops left: the better of it and the best so far is kept, and its cost returned.
-fn meet(frame: &[u32; 104], kept: &mut Kept, left: u64, word: u64, cost: f64, best: f64) -> f64
+fn meet(frame: &Frame, kept: &mut Kept, left: u64, word: u64, cost: f64, best: f64) -> f64
     requires { Comparable frame.now kept.old word cost best × (length (stops_of left) ≤ placed_count frame.now) }
     ensures { Met frame.now left word cost best kept.old kept.new result }
 {
@@ -65,7 +65,7 @@ fn with_digit(word: u64, digit: u64) -> u64
 // stands and behind the gap, `others` what all else costs.
 fn walk(
     ways: &Ways,
-    frame: &[u32; 104],
+    frame: &Frame,
     kept: &mut Kept,
     q: usize,
     left: u64,
@@ -105,7 +105,7 @@ fn walk(
 
 // Walks all arrangements of the frame's drained stops in its gaps. `others` is what all but the first gap's route costs where every gap is
 // empty, and `best` the cost of the plan whose word is kept.
-pub fn visit(ways: &Ways, frame: &[u32; 104], kept: &mut Kept, others: f64, best: f64) -> f64
+pub fn visit(ways: &Ways, frame: &Frame, kept: &mut Kept, others: f64, best: f64) -> f64
     requires { Visitable ways.now frame.now kept.old others best }
     ensures { Visited ways.now frame.now kept.old kept.new result }
 {

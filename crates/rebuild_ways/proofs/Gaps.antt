@@ -9,6 +9,7 @@ use Rattle.model.specs.Cost.{price}
 use Rattle.whole.proofs.Laws.{amount-is}
 use Rattle.distance.proofs.Laws.{leg-small}
 use Rattle.delivery.proofs.Laws.{price-small}
+use Rattle.rebuild_survey.specs.declared.Gap.{Gap}
 use Rattle.rebuild_survey.specs.Surveys.{head_of, rest_of}
 use Rattle.rebuild_ways.specs.declared.Ways.{Ways}
 use Rattle.rebuild_ways.specs.Exact.{Wholly}
@@ -18,7 +19,7 @@ use Rattle.rebuild_ways.specs.Fills.{RowsFilled, GapsFillable, GapsFilled}
 use Rattle.rebuild_ways.proofs.Laws.{exact-whole}
 use Rattle.rebuild_ways.proofs.Filling.{whole-put, put-here, put-elsewhere}
 
-module _ (gaps : List ℕ) (p : ℕ) (before : Ways) (F : GapsFillable gaps p before) (m : ℕ) (h : m < p) (w : Ways) (G : GapsFilled gaps m before w) where
+module _ (gaps : List Gap) (p : ℕ) (before : Ways) (F : GapsFillable gaps p before) (m : ℕ) (h : m < p) (w : Ways) (G : GapsFilled gaps m before w) where
   -- the length of the gap's route without what fills the gap
   abbrev pub around : ℕ
   around = head_of gaps m + rest_of gaps m
@@ -91,7 +92,7 @@ prices-kept p A x e =
     in
     r
 
-module _ (t : List ℕ) (prices : Prices) (starts ends gaps : List ℕ) (p : ℕ) (base : Float) (F : Fillable t prices starts ends gaps p base)
+module _ (t : List ℕ) (prices : Prices) (starts ends : List ℕ) (gaps : List Gap) (p : ℕ) (base : Float) (F : Fillable t prices starts ends gaps p base)
     (w : Ways) (R : RowsFilled t starts ends 11 w.legs) (ep : prices_at w ≡ prices) where
   pub gaps-fillable : GapsFillable gaps p w
   gaps-fillable =

@@ -2,6 +2,7 @@
 use Rattle.std.specs.Prelude.{◌≡◌, ℕ, ◌+◌, ◌*◌, ◌≤◌, ◌<◌, List, Float, length, get_or}
 use Rattle.model.specs.Legs.{leg_at, Affordable}
 use Rattle.model.specs.Cost.{price}
+use Rattle.rebuild_survey.specs.declared.Gap.{Gap}
 use Rattle.rebuild_survey.specs.Surveys.{head_of, rest_of}
 use Rattle.rebuild_ways.specs.declared.Ways.{Ways}
 use Rattle.rebuild_ways.specs.Exact.{Wholly}
@@ -27,14 +28,14 @@ pub record RowsFilled (t starts ends : List ℕ) (m : ℕ) (after : List Float) 
   pub rows : (r c : ℕ) → r < m → c < 11 → leg_in after r c ≡ leg_at t (get_or starts r 0) (get_or ends c 0)
 
 -- what is asked to write what is known of p gaps: their routes are short enough for an exact price
-pub record GapsFillable (gaps : List ℕ) (p : ℕ) (ways : Ways) : Type 0 where
+pub record GapsFillable (gaps : List Gap) (p : ℕ) (ways : Ways) : Type 0 where
   pub affordable : Affordable (prices_at ways)
   pub few : p ≤ 3
   pub short : (q : ℕ) → q < p → head_of gaps q + rest_of gaps q ≤ 13000000
   pub leg : (q : ℕ) → q < p → way_at ways (8 + q) (8 + q) ≤ 200000
 
 -- what is known of the first m gaps is written, and the legs, the prices and the base stay
-pub record GapsFilled (gaps : List ℕ) (m : ℕ) (before after : Ways) : Type 0 where
+pub record GapsFilled (gaps : List Gap) (m : ℕ) (before after : Ways) : Type 0 where
   pub own : (q : ℕ) → q < m → own_at after q ≡ head_of gaps q + rest_of gaps q
   pub vacant : (q : ℕ) → q < m
       → vacant_at after q ≡ price (prices_at before) (head_of gaps q + rest_of gaps q + way_at before (8 + q) (8 + q))

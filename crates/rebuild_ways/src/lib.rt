@@ -8,6 +8,7 @@ ghost use Rattle.model.specs.Cost.{price};
 ghost use Rattle.rebuild_ways.specs.Exact.{IsExact, Wholly};
 
 use model::Prices;
+use rebuild_survey::Gap;
 use rows::fill_rows;
 
 mod rows;
@@ -98,12 +99,12 @@ impl Ways {
         all * (self.linear + all * self.quadratic)
     }
     // Writes what is known of each gap: the length of its route without what fills the gap, and what the route costs so.
-    fn fill_gaps(&mut self, gaps: &[u32; 12], p: usize)
+    fn fill_gaps(&mut self, gaps: &[Gap; 3], p: usize)
         requires { GapsFillable gaps.now p self.old }
         ensures { GapsFilled gaps.now p self.old self.new }
     {
         for q in 0..p {
-            let own = (gaps[4 * q + 2] + gaps[4 * q + 3]) as f64;
+            let own = (gaps[q].head + gaps[q].rest) as f64;
             let vacant = self.closed(q, GAP + q, own);
             self.own[q] = own;
             self.vacant[q] = vacant;
@@ -116,7 +117,7 @@ impl Ways {
         prices: Prices,
         starts: &[u32; 16],
         ends: &[u32; 16],
-        gaps: &[u32; 12],
+        gaps: &[Gap; 3],
         p: usize,
         base: f64,
     ) -> Ways

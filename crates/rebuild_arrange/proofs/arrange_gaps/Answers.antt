@@ -3,21 +3,20 @@ use mathlib.Core.Path.{refl, ap, ◌∙◌}
 use mathlib.Core.List.{List}
 use native.Mathlib.Omega.{arith}
 use lib.ListN.{get_or}
+use Rattle.rebuild_tables.specs.declared.Frame.{Frame}
 use Rattle.rebuild_tables.specs.Frame.{Framing}
-use Rattle.rebuild_arrange.proofs.Zeros.{zeros-small}
 use Rattle.rebuild_arrange.proofs.Arranging.{addable, visitable, visited-arranged}
 use Rattle.rebuild_arrange.proofs.arrange_gaps.Goals as goal
 use Rattle.rebuild_arrange.proofs.arrange_gaps.Goals.{After-fill-own}
 
-abbrev frame : After-fill-own → List ℕ
-frame c = c.fill-own.new.frame
+abbrev frame : After-fill-own → Frame
+frame c = c.fill-own.result.frame
 
 abbrev framing : (c : After-fill-own) → Framing c.args.plan.now c.args.v c.args.n c.args.regions.now (frame c)
 framing c = c.fill-own.ensures.framing
 
 pub fill-own-requires : goal.fill-own-requires
-fill-own-requires c =
-    record { gapped = (c.requires.arrangeable.0.gapped, c.requires.arrangeable.1, c.requires.arrangeable.0.few); frame_len = (refl, λ i a b. zeros-small 64 (omega arith) 104 i) }
+fill-own-requires c = (c.requires.arrangeable.0.gapped, c.requires.arrangeable.1, c.requires.arrangeable.0.few)
 
 pub table_ways-ways-requires : goal.table_ways-ways-requires
 table_ways-ways-requires c =

@@ -3,4 +3,4 @@ use Rattle.rebuild_arrange.proofs.Ends.{Ending}
 use Rattle.rebuild_arrange.proofs.ends_of.Given as goal
 
 abbrev pub invariant-loop-i : goal.invariant-loop-i
-invariant-loop-i l = Ending l.frame l.gaps l.side l.i l.ends
+invariant-loop-i l = Ending l.frame l.places l.i l.ends
