@@ -1,13 +1,13 @@
 -- The plan of a word of a frame is written from the frame's parts.
-use Prim.Native.Nat.{ℕ, ◌+◌, ◌-◌, ◌*◌, ◌≤◌}
+use Prim.Native.Nat.{ℕ, ◌≤◌}
 use native.Mathlib.Omega.{arith}
 use mathlib.Core.Path.{◌≡◌, sym, ap, ap₂, ◌∙◌}
 use mathlib.Core.Bool.{Bool}
 use mathlib.Core.List.{List, ◌++◌}
-use lib.ListN.{length, take, drop, length-append}
+use lib.ListN.{length, take, length-append}
 use lib.Seq.{length-take-le, take_at}
 use Rattle.model.specs.Lists.{lower}
-use Rattle.model.specs.Plan.{Plan, decode, encode, placed}
+use Rattle.model.specs.Plan.{Plan, encode, placed}
 use Rattle.model.specs.declared.Region.{Region}
 use Rattle.rebuild_words.specs.Words.{Word, plan_of}
 use Rattle.rebuild_words.specs.Gaps.{Gapped}

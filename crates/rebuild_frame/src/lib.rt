@@ -66,7 +66,14 @@ pub fn plan_of(frame: &Frame, word: u64, to: &mut [u32])
     let v = frame.routes;
     let n = frame.stops;
     let end = v + n;
-    rebuild_words::compose(&frame.plan[..end], v, n, &frame.regions[..p], &codes[..m], to);
+    rebuild_words::compose(
+        &frame.plan[..end],
+        v,
+        n,
+        &frame.regions[..p],
+        &codes[..m],
+        to,
+    );
 }
 
 // Whether the plan of a word is lower than that of another: the first number that differs in their lent forms is.
@@ -133,7 +140,11 @@ pub fn fill(plan: &[u32], v: usize, n: usize, regions: &[Region]) -> Beginning
     ensures value { result.own ≡ word_of (own (decode v plan.now) regions.now) }
     ensures stops_small { StopsSmall result.frame }
 {
-    let mut spans = [Region { vehicle: 0, from: 0, to: 0 }; 3];
+    let mut spans = [Region {
+        vehicle: 0,
+        from: 0,
+        to: 0,
+    }; 3];
     let p = regions.len();
     spans[..p].copy_from_slice(regions);
     let mut lent = [0u32; 80];
@@ -151,5 +162,8 @@ pub fn fill(plan: &[u32], v: usize, n: usize, regions: &[Region]) -> Beginning
         listed: stops,
         plan: lent,
     };
-    Beginning { frame, own: listed.word }
+    Beginning {
+        frame,
+        own: listed.word,
+    }
 }

@@ -5,7 +5,7 @@ use native.Mathlib.Omega.{arith}
 use native.Mathlib.Numerals.{add-one}
 use mathlib.Core.Path.{◌≡◌, refl, sym, ap, ◌∙◌}
 use mathlib.Core.Bool.{true}
-use mathlib.Core.List.{List, [], ◌∷◌, ◌++◌, map}
+use mathlib.Core.List.{List, [], map}
 use lib.ListN.{length, get_or, take, drop, set, length-set}
 use lib.Seq.{get_or-take, take-suc, take-suc-set, length-take-le, drop-set-lt}
 use Rattle.model.specs.Lists.{count}

@@ -8,7 +8,7 @@ use mathlib.Core.List.{List}
 use lib.ListN.{length, get_or}
 use Rattle.model.specs.Lists.{position}
 use Rattle.model.specs.Plan.{Plan, route_of, vehicle_of, is_placed, decode, Lent}
-use Rattle.model.specs.Region.{region_from, region_to, region_of}
+use Rattle.model.specs.Region.{region_from, region_to}
 use Rattle.model.proofs.Locate.{vehicle-lt, vehicle-none, vehicle-position}
 use Rattle.model.proofs.PlanForm.{lent_length, route-length, route-end}
 use Rattle.solution.specs.declared.Place.{Place}

@@ -16,7 +16,7 @@ use Rattle.rebuild_words.proofs.Gaps.{stretch-at}
 use Rattle.rebuild_words.specs.Gaps.{no_region, Gapped}
 use Rattle.rebuild_survey.specs.declared.Gap.{Gap}
 use Rattle.rebuild_survey.specs.Ways.{Measured}
-use Rattle.rebuild_survey.specs.Surveys.{gap_at, Surveyed-at, Surveyed, Unsurveyed}
+use Rattle.rebuild_survey.specs.Surveys.{Surveyed-at, Surveyed, Unsurveyed}
 
 -- ---- one gap after another
 

@@ -68,14 +68,7 @@ fn measure(legs: &[u32], vehicle: usize, route: &[u32], from: usize, to: usize) 
 }
 
 // Writes what is known of each gap of a plan. What stands after these stays.
-pub fn survey(
-    legs: &[u32],
-    plan: &[u32],
-    v: usize,
-    n: usize,
-    regions: &[Region],
-    gaps: &mut [Gap],
-)
+pub fn survey(legs: &[u32], plan: &[u32], v: usize, n: usize, regions: &[Region], gaps: &mut [Gap])
     requires { LegTable legs.now × Gapped v n plan.now regions.now × (length gaps.old ≡ 3) }
     ensures surveyed { Surveyed legs.now v plan.now regions.now gaps.new }
     ensures unsurveyed { Unsurveyed regions.now gaps.old gaps.new }

@@ -87,7 +87,7 @@ counted-at q kept counted C h r = elim (tested q r) [
   | inr f ↦ rw C.calls (get_or-set_other kept.calls q r (calls_in kept q + 1) 0 (λ e. f.0 (sym e)) ∙ omega (arith, one-other q r f.0))
 ]
 
-module _ (ways : Ways) (f : Frame) (kept : Kept) (q left word : ℕ) (len others best : Float) (c : Walkable ways f kept q left word len others best) where
+module _ {ways : Ways} {f : Frame} {kept : Kept} {q left word : ℕ} {len others best : Float} (c : Walkable ways f kept q left word len others best) where
   abbrev p : ℕ
   p = gap_count f
 
@@ -109,7 +109,7 @@ module _ (ways : Ways) (f : Frame) (kept : Kept) (q left word : ℕ) (len others
   pub count-below : calls_in kept q ≤ 390453
   count-below = omega (arith, c.room q c.here.gap, call_count-step q q (size left), one_same q q refl)
 
-  module _ (counted : Kept) (C : Counted q kept counted) where
+  module _ {counted : Kept} (C : Counted q kept counted) where
     calls-at : (r : ℕ) → calls_in counted r ≡ calls_in kept r + cond (eqb q r) 1 0
     calls-at = counted-at q kept counted C gap-low
 
@@ -260,11 +260,11 @@ module _ (ways : Ways) (f : Frame) (kept : Kept) (q left word : ℕ) (len others
 
   -- ---- the loop
 
-  module _ (k₀ : Kept) (found₀ : Float) (o : Opened ways f q left word kept k₀ found₀) where
+  module _ {k₀ : Kept} {found₀ : Float} (o : Opened ways f q left word kept k₀ found₀) where
     pub looping-start : Looping ways f q left word k₀ k₀ found₀ left
     looping-start = record { held = o.held; within = λ t. omega arith; each = λ r i. refl; noted = refl; chosen = λ J pr. refl }
 
-  module _ (k₀ : Kept) (found₀ : Float) (o : Opened ways f q left word kept k₀ found₀) (k : Kept) (found : Float) (next : ℕ)
+  module _ {k₀ : Kept} {found₀ : Float} (o : Opened ways f q left word kept k₀ found₀) {k : Kept} {found : Float} {next : ℕ}
       (l : Looping ways f q left word k₀ k found next) where
     pub looping-end : next ≡ 0 → Walked ways f kept q left word k found
     unfolding trail_from
@@ -286,7 +286,7 @@ module _ (ways : Ways) (f : Frame) (kept : Kept) (q left word : ℕ) (len others
           ∙ o.chosen J pr;
     }
 
-    module _ (s rest fewer : ℕ) (first : First next s) (er : rest ≡ excluding s next) (ef : fewer ≡ excluding s left) where
+    module _ {s rest fewer : ℕ} (first : First next s) (er : rest ≡ excluding s next) (ef : fewer ≡ excluding s left) where
       in-next : 1 ≤ count s (stops_of next)
       in-next = rw first.list (omega (arith, one_same s s refl))
 

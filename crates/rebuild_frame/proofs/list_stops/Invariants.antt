@@ -1,6 +1,5 @@
 -- The stops of the regions before q are listed.
-use Prim.Native.Nat.{◌≤◌}
-use lib.ListN.{length, take}
+use lib.ListN.{take}
 use Rattle.model.specs.Plan.{decode}
 use Rattle.rebuild_frame.specs.Listing.{AllListed}
 use Rattle.rebuild_frame.proofs.list_stops.Given as goal

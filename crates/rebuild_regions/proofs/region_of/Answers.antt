@@ -1,5 +1,4 @@
 use native.Mathlib.Omega.{arith}
-use mathlib.Core.Path.{sym, ◌∙◌}
 use Rattle.model.specs.Plan.{decode}
 use Rattle.solution.specs.declared.Place.{Place}
 use Rattle.rebuild_regions.proofs.Places.{There, found-there, found_nowhere, Within, there-within, region-there}

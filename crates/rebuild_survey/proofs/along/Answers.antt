@@ -1,7 +1,5 @@
-use Prim.Native.Nat.{◌<◌}
 use native.Mathlib.Omega.{arith}
 use mathlib.Core.Path.{refl}
-use lib.ListN.{get_or}
 use Rattle.model.proofs.Counts.{below_at}
 use Rattle.rebuild_survey.proofs.Ways.{going-none, going_more, going-all}
 use Rattle.rebuild_survey.proofs.along.Goals as goal
