@@ -131,10 +131,10 @@ module _ {ways : Ways} {f : Frame} {kept : Kept} {q left word : ℕ} {len others
       }
 
       dn : done_of r w ≡ done_of q word ++ here_of q word ∷ []
-      dn = done_next ways f c.tabled q left word len others c.here h w ew
+      dn = done_next c.tabled c.here h w ew
 
       hn : here_of r w ≡ []
-      hn = here-next ways f c.tabled q left word len others c.here h w ew
+      hn = here-next c.tabled c.here h w ew
 
       pub opened-next : (k : Kept) (found : Float) → Walked ways f counted r left w k found → Opened ways f q left word kept k found
       opened-next k found d = record {
@@ -164,12 +164,12 @@ module _ {ways : Ways} {f : Frame} {kept : Kept} {q left word : ℕ} {len others
       full : FullIn f X
       full =
           let z : later f q ≡ 0 = omega arith in
-          subst (λ (k : ℕ). FullIn f (done_of q word ++ here_of q word ∷ empties k)) z (padded-is ways f c.tabled q left word len others c.here)
+          subst (λ (k : ℕ). FullIn f (done_of q word ++ here_of q word ∷ empties k)) z (padded-is c.tabled c.here)
 
       reads : (filling_of word ≡ X) × Placeable f word
       reads = full-worded p m X full gaps-few c.tabled.framed.few word c.here.at.says
 
-      module _ (cost : Float) (ec : cost ≡ whole (cost_by ways m (padded ways f c.tabled q left word len others c.here))) where
+      module _ (cost : Float) (ec : cost ≡ whole (cost_by ways m (padded c.tabled c.here))) where
         cost-here : cost ≡ whole (cost_by ways m X)
         cost-here =
             let z : later f q ≡ 0 = omega arith in
@@ -294,7 +294,7 @@ module _ {ways : Ways} {f : Frame} {kept : Kept} {q left word : ℕ} {len others
       in_left = omega (arith, in-next, l.within s)
 
       pub turn_small : s ≤ 7
-      turn_small = stop-small ways f c.tabled q left word len others c.here s in_left fewer ef
+      turn_small = stop-small c.tabled c.here s in_left fewer ef
 
       fewer-size : size fewer ≡ size left - 1
       fewer-size = omega (arith, taken-size left s fewer in_left ef)

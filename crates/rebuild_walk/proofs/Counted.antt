@@ -30,8 +30,8 @@ module _ {ways : Ways} {f : Frame} {kept : Kept} {q left word : ℕ} {len others
         → Walkable ways f counted (q + 1) left w own (sub binary64 cost vacant) best
     next-call own vacant eo ev =
         call_next c ek ahead w ew own (sub binary64 cost vacant)
-        (here-opened ways f c.tabled q left word len others c.here ahead w ew own cost vacant eo
-        (cost-is ways f c.tabled q left word len others c.here closed ec) ev)
+        (here-opened c.tabled c.here ahead w ew own cost vacant eo
+        (cost-is c.tabled c.here closed ec) ev)
 
     pub next-opened : (k : Kept) (found : Float) → Walked ways f counted (q + 1) left w k found → Opened ways f q left word kept k found
     next-opened k found d = opened-next c ek ahead w ew k found d
@@ -42,7 +42,7 @@ module _ {ways : Ways} {f : Frame} {kept : Kept} {q left word : ℕ} {len others
 
     pub met-asked : Comparable f counted word cost best × (length (stops_of left) ≤ placed_count f)
     met-asked =
-        let e = cost-is ways f c.tabled q left word len others c.here closed ec in (
+        let e = cost-is c.tabled c.here closed ec in (
           meet-asks c ek behind cost e,
           meet_left c ek behind cost e,
         )
@@ -50,7 +50,7 @@ module _ {ways : Ways} {f : Frame} {kept : Kept} {q left word : ℕ} {len others
     pub met-opened : (k : Kept) (found : Float) → Met f left word cost best counted k found → Opened ways f q left word kept k found
     met-opened k found m =
         opened-last c ek behind cost
-        (cost-is ways f c.tabled q left word len others c.here closed ec) k found m
+        (cost-is c.tabled c.here closed ec) k found m
 
 -- one stop more: the call, and what comes of it
 module _ {ways : Ways} {f : Frame} {kept : Kept} {q left word : ℕ} {len others best : Float} (c : Walkable ways f kept q left word len others best)
@@ -62,7 +62,7 @@ module _ {ways : Ways} {f : Frame} {kept : Kept} {q left word : ℕ} {len others
   stop-call gone missed eg em =
       subst (λ (x : ℕ). Walkable ways f k q fewer x gone (sub binary64 others missed) found) (sym ew)
       (call-stop c o l first er ef gone (sub binary64 others missed)
-      (here-stop ways f c.tabled q left word len others c.here s
+      (here-stop c.tabled c.here s
       (in_left c o l first er ef) fewer ef gone missed eg em))
 
   pub stop-again : (k' : Kept) (found' : Float) → Walked ways f k q fewer w k' found' → Looping ways f q left word k₀ k' found' rest

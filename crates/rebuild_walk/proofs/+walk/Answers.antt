@@ -15,7 +15,7 @@ opened t c =
     ]
 
 pub closed-requires : goal.closed-requires
-closed-requires t c = record { wholly = (c.requires.tabled.prices, omega (arith, gap-low c.requires), omega arith); whole = (len_whole c.args.ways.now c.args.frame.now c.requires.tabled c.args.q c.args.left c.args.word c.args.length c.args.others c.requires.here, closed-short c.args.ways.now c.args.frame.now c.requires.tabled c.args.q c.args.left c.args.word c.args.length c.args.others c.requires.here) }
+closed-requires t c = record { wholly = (c.requires.tabled.prices, omega (arith, gap-low c.requires), omega arith); whole = (len_whole c.requires.tabled c.requires.here, closed-short c.requires.tabled c.requires.here) }
 
 pub count_call-requires : goal.count_call-requires
 count_call-requires t c = (gap-low c.requires, count-below c.requires)
@@ -70,8 +70,8 @@ pub step-gone-requires : goal.step-gone-requires
 step-gone-requires t c = (
   omega arith,
   omega (arith, turn_small c.requires (opened t (goal.at.step-gone-requires t c).Joined-r-gaps) c.loop-next.invariant c.lowest-s.ensures c.without-next.ensures c.without-fewer.ensures),
-  len_whole c.args.ways.now c.args.frame.now c.requires.tabled c.args.q c.args.left c.args.word c.args.length c.args.others c.requires.here,
-  step_small c.args.ways.now c.args.frame.now c.requires.tabled c.args.q c.args.left c.args.word c.args.length c.args.others c.requires.here c.lowest-s.result (in_left c.requires (opened t (goal.at.step-gone-requires t c).Joined-r-gaps) c.loop-next.invariant c.lowest-s.ensures c.without-next.ensures c.without-fewer.ensures) c.without-fewer.result c.without-fewer.ensures,
+  len_whole c.requires.tabled c.requires.here,
+  step_small c.requires.tabled c.requires.here c.lowest-s.result (in_left c.requires (opened t (goal.at.step-gone-requires t c).Joined-r-gaps) c.loop-next.invariant c.lowest-s.ensures c.without-next.ensures c.without-fewer.ensures) c.without-fewer.result c.without-fewer.ensures,
 )
 
 pub walk-found-requires-in-loop-next : goal.walk-found-requires-in-loop-next
