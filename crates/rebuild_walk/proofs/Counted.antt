@@ -1,5 +1,5 @@
 -- The steps of a call, once it is counted: what it hands on to the next gap or meets.
-use Rattle.std.proofs.Common.{◌≡◌, ℕ, ◌+◌, ◌*◌, ◌%◌, ◌<◌, ◌≤◌, List, length, sym, subst, arith}
+use Rattle.std.proofs.Common.{◌≡◌, ℕ, ◌+◌, ◌*◌, ◌%◌, ◌<◌, ◌≤◌, length, sym, subst, arith}
 use lib.Ieee.{Float, binary64, add, sub}
 use Rattle.model.specs.StopSet.{stops_of, excluding}
 use Rattle.stop_set.specs.Answers.{First}
