@@ -87,7 +87,7 @@ counted-at q kept counted C h r = elim (tested q r) [
   | inr f ↦ rw C.calls (get_or-set_other kept.calls q r (calls_in kept q + 1) 0 (λ e. f.0 (sym e)) ∙ omega (arith, one-other q r f.0))
 ]
 
-module _ (ways : Ways) (f : Frame) (kept : Kept) (q left word : ℕ) (len others best : Float) (c : Walkable ways f kept q left word len others best) where
+module _ {ways : Ways} {f : Frame} {kept : Kept} {q left word : ℕ} {len others best : Float} (c : Walkable ways f kept q left word len others best) where
   abbrev p : ℕ
   p = gap_count f
 
@@ -109,7 +109,7 @@ module _ (ways : Ways) (f : Frame) (kept : Kept) (q left word : ℕ) (len others
   pub count-below : calls_in kept q ≤ 390453
   count-below = omega (arith, c.room q c.here.gap, call_count-step q q (size left), one_same q q refl)
 
-  module _ (counted : Kept) (C : Counted q kept counted) where
+  module _ {counted : Kept} (C : Counted q kept counted) where
     calls-at : (r : ℕ) → calls_in counted r ≡ calls_in kept r + cond (eqb q r) 1 0
     calls-at = counted-at q kept counted C gap-low
 
@@ -131,10 +131,10 @@ module _ (ways : Ways) (f : Frame) (kept : Kept) (q left word : ℕ) (len others
       }
 
       dn : done_of r w ≡ done_of q word ++ here_of q word ∷ []
-      dn = done_next ways f c.tabled q left word len others c.here h w ew
+      dn = done_next c.tabled c.here h w ew
 
       hn : here_of r w ≡ []
-      hn = here-next ways f c.tabled q left word len others c.here h w ew
+      hn = here-next c.tabled c.here h w ew
 
       pub opened-next : (k : Kept) (found : Float) → Walked ways f counted r left w k found → Opened ways f q left word kept k found
       opened-next k found d = record {
@@ -164,12 +164,12 @@ module _ (ways : Ways) (f : Frame) (kept : Kept) (q left word : ℕ) (len others
       full : FullIn f X
       full =
           let z : later f q ≡ 0 = omega arith in
-          subst (λ (k : ℕ). FullIn f (done_of q word ++ here_of q word ∷ empties k)) z (padded-is ways f c.tabled q left word len others c.here)
+          subst (λ (k : ℕ). FullIn f (done_of q word ++ here_of q word ∷ empties k)) z (padded-is c.tabled c.here)
 
       reads : (filling_of word ≡ X) × Placeable f word
       reads = full-worded p m X full gaps-few c.tabled.framed.few word c.here.at.says
 
-      module _ (cost : Float) (ec : cost ≡ whole (cost_by ways m (padded ways f c.tabled q left word len others c.here))) where
+      module _ (cost : Float) (ec : cost ≡ whole (cost_by ways m (padded c.tabled c.here))) where
         cost-here : cost ≡ whole (cost_by ways m X)
         cost-here =
             let z : later f q ≡ 0 = omega arith in
@@ -260,11 +260,11 @@ module _ (ways : Ways) (f : Frame) (kept : Kept) (q left word : ℕ) (len others
 
   -- ---- the loop
 
-  module _ (k₀ : Kept) (found₀ : Float) (o : Opened ways f q left word kept k₀ found₀) where
+  module _ {k₀ : Kept} {found₀ : Float} (o : Opened ways f q left word kept k₀ found₀) where
     pub looping-start : Looping ways f q left word k₀ k₀ found₀ left
     looping-start = record { held = o.held; within = λ t. omega arith; each = λ r i. refl; noted = refl; chosen = λ J pr. refl }
 
-  module _ (k₀ : Kept) (found₀ : Float) (o : Opened ways f q left word kept k₀ found₀) (k : Kept) (found : Float) (next : ℕ)
+  module _ {k₀ : Kept} {found₀ : Float} (o : Opened ways f q left word kept k₀ found₀) {k : Kept} {found : Float} {next : ℕ}
       (l : Looping ways f q left word k₀ k found next) where
     pub looping-end : next ≡ 0 → Walked ways f kept q left word k found
     unfolding trail_from
@@ -286,7 +286,7 @@ module _ (ways : Ways) (f : Frame) (kept : Kept) (q left word : ℕ) (len others
           ∙ o.chosen J pr;
     }
 
-    module _ (s rest fewer : ℕ) (first : First next s) (er : rest ≡ excluding s next) (ef : fewer ≡ excluding s left) where
+    module _ {s rest fewer : ℕ} (first : First next s) (er : rest ≡ excluding s next) (ef : fewer ≡ excluding s left) where
       in-next : 1 ≤ count s (stops_of next)
       in-next = rw first.list (omega (arith, one_same s s refl))
 
@@ -294,7 +294,7 @@ module _ (ways : Ways) (f : Frame) (kept : Kept) (q left word : ℕ) (len others
       in_left = omega (arith, in-next, l.within s)
 
       pub turn_small : s ≤ 7
-      turn_small = stop-small ways f c.tabled q left word len others c.here s in_left fewer ef
+      turn_small = stop-small c.tabled c.here s in_left fewer ef
 
       fewer-size : size fewer ≡ size left - 1
       fewer-size = omega (arith, taken-size left s fewer in_left ef)

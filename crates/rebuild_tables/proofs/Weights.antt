@@ -33,7 +33,7 @@ behind : (done : Filling) (x : List ℕ) (ys : Filling) → get_or (done ++ x �
 behind [] x ys = refl
 behind (z ∷ done) x ys = behind done x ys
 
-module _ (ways : Ways) (f : Frame) (T : Tabled ways f) (q left word : ℕ) (len others : Float) (h : Here ways f q left word len others) where
+module _ {ways : Ways} {f : Frame} (T : Tabled ways f) {q left word : ℕ} {len others : Float} (h : Here ways f q left word len others) where
   abbrev m : ℕ
   m = drained_count f
 

@@ -3,8 +3,8 @@ use Rattle.std.specs.Prelude.{◌≡◌, Bool, true, false, ◌&&◌, ◌||◌, 
 use Rattle.model.specs.Lists.{lower}
 use Rattle.model.specs.StopSet.{stops_of}
 use Rattle.model.specs.Whole.{amount, IsWhole}
-use Rattle.rebuild_tables.specs.declared.Kept.{Kept}
 use Rattle.rebuild_tables.specs.declared.Frame.{Frame}
+use Rattle.rebuild_tables.specs.declared.Kept.{Kept}
 use Rattle.rebuild_tables.specs.Frame.{placed_count, form_of, Framed, Placeable}
 
 -- ---- the trail: one number, which all words that were met and their order make

@@ -11,10 +11,10 @@ use Rattle.model.specs.Rebuild.{choose, fillings, arrangements, begun, completed
 use Rattle.rebuild_fillings.specs.Walk.{Filling, empties, fillings_from, plans_from, call_count}
 use Rattle.rebuild_fillings.specs.Rows.{word_of, filling_of, done_of, here_of, Reached, Full}
 use Rattle.rebuild_tables.specs.declared.Frame.{Frame}
+use Rattle.rebuild_tables.specs.declared.Kept.{Kept}
 use Rattle.rebuild_tables.specs.Frame.{gap_count, stop_total, drained_count, framed_plan, framed_regions, plan_by, Framed, Placeable}
 use Rattle.rebuild_ways.specs.declared.Ways.{Ways}
 use Rattle.rebuild_ways.specs.Ways.{own_at, vacant_at, prices_at, base_at}
-use Rattle.rebuild_tables.specs.declared.Kept.{Kept}
 use Rattle.rebuild_tables.specs.Kept.{calls_in}
 use Rattle.rebuild_tables.specs.Ways.{gone_by, route_by, driven_by, cost_by}
 use Rattle.rebuild_tables.specs.Meeting.{trail_from}

@@ -1,9 +1,23 @@
-// What the walk over the arrangements keeps, the frame that it reads, and definitions and laws of its tables.
+// The frame that the walk over the arrangements reads, what it keeps, and the definitions and laws of the walk.
 #![tactic(auto)]
 
 ghost use Rattle.std.specs.Prelude.{◌≡◌, ◌≤◌, ◌<◌, length};
 
 use model::Region;
+
+// What is needed to write the plan of a word: how many gaps, routes and stops there are, how many stops are placed and how many drained, the
+// regions, the drained stops, of which the first is listed at place 1, and the plan.
+#[derive(Drop)]
+pub struct Frame {
+    pub gaps: usize,
+    pub routes: usize,
+    pub stops: usize,
+    pub placed: u32,
+    pub drained: u32,
+    pub regions: [Region; 3],
+    pub listed: [u32; 8],
+    pub plan: [u32; 80],
+}
 
 // What a walk keeps: the word of the best arrangement, the stops that this places, how often it was called in each gap, and the trail of the
 // words that it met. So the calls in the first gap are the fillings of it that were begun, and those in the last gap the arrangements
@@ -39,18 +53,4 @@ impl Kept {
     {
         self.calls[q] += 1;
     }
-}
-
-// What is needed to write the plan of a word: how many gaps, routes and stops there are, how many stops are placed and how many drained, the
-// regions, the drained stops, of which the first is listed at place 1, and the plan.
-#[derive(Drop)]
-pub struct Frame {
-    pub gaps: usize,
-    pub routes: usize,
-    pub stops: usize,
-    pub placed: u32,
-    pub drained: u32,
-    pub regions: [Region; 3],
-    pub listed: [u32; 8],
-    pub plan: [u32; 80],
 }

@@ -91,6 +91,7 @@ fn walk(
         found = meet(frame, kept, left, word, cost, best);
     }
     let placed = others - ways.missed();
+    // A set of stops is one number, and no iterator of the library goes over a number's ones: the lowest stop is taken out each time.
     let mut next = left;
     while next != 0 {
         let s = stop_set::lowest(next);

@@ -1,11 +1,9 @@
 use Prim.Native.Nat.{ℕ, ◌-◌}
 use mathlib.Core.Path.{refl, ap, ◌∙◌}
-use mathlib.Core.List.{List}
 use native.Mathlib.Omega.{arith}
 use lib.ListN.{get_or}
 use Rattle.rebuild_tables.specs.declared.Frame.{Frame}
-use Rattle.rebuild_tables.specs.Frame.{gap_count, Framing}
-use Rattle.rebuild_arrange.proofs.Zeros.{zeros-small}
+use Rattle.rebuild_tables.specs.Frame.{Framing}
 use Rattle.rebuild_arrange.proofs.Arranging.{addable, visitable, visited-arranged}
 use Rattle.rebuild_arrange.proofs.arrange_gaps.Goals as goal
 use Rattle.rebuild_arrange.proofs.arrange_gaps.Goals.{After-fill-own}

@@ -14,7 +14,7 @@ invariant_of-ways c =
       whole_legs = c.fill_rows.ensures.roomy.1;
       whole_own = zeros-whole 4;
       whole_vacant = zeros-whole 4;
-      whole_prices = (exact-whole p.linear (omega (arith, a.linear)), exact-whole p.quadratic (omega (arith, a.quadratic)), rw c.of_u64-missed.ensures (exact-whole p.missed (omega (arith, a.missed))));
+      whole_prices = (exact-whole p.linear (omega (arith, a.linear)), exact-whole p.quadratic (omega (arith, a.quadratic)), exact-known c.of_u64-missed.result (p.missed, omega (arith, a.missed), c.of_u64-missed.ensures));
       whole_base = exact-known c.args.base c.requires.known;
     }
 
