@@ -1,5 +1,5 @@
 -- Specification, 6: which stretches of which routes are drained.
-use Rattle.std.specs.Prelude.{ℕ, ◌+◌, ◌-◌, ◌*◌, ◌/◌, ◌≤◌, ◌<◌, min, cond, List, [], ◌∷◌, map, length, get_or}
+use Rattle.std.specs.Prelude.{ℕ, ◌+◌, ◌-◌, ◌*◌, ◌/◌, ◌≤◌, ◌<◌, min, cond, List, [], ◌∷◌, map, length}
 use Rattle.model.specs.Lists.{In, Distinct, part, position, member, concat}
 pub use Rattle.model.specs.declared.Region.{Region}
 use Rattle.model.specs.Plan.{Plan, route_of, vehicle_of, is_placed}
@@ -60,9 +60,3 @@ pub record Stretch (P : Plan) (g : Region) : Type 0 where
 pub record Stretches (P : Plan) (gs : List Region) : Type 0 where
   pub apart : Distinct (vehicles_of gs)
   pub each : (g : Region) → In g gs → Stretch P g
-
--- ---- the form in which regions are lent: three numbers each, one region after another
-
--- the region that stands at place i
-abbrev pub region_at : List ℕ → ℕ → Region
-region_at xs i = record { vehicle = get_or xs (3 * i) 0; from = get_or xs (3 * i + 1) 0; to = get_or xs (3 * i + 2) 0 }

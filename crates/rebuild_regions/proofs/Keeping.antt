@@ -16,7 +16,6 @@ use Rattle.model.specs.Region.{keep_picks}
 use Rattle.model.proofs.Lists.{Tested, tested}
 use Rattle.stop_set.proofs.Digits.{bit-including-same, bit-including-other}
 use Rattle.solution.proofs.Walks.{from-here, from_end}
-use Rattle.rebuild_regions.proofs.Places.{placed_on, placed_off}
 
 -- the set holds these vehicles
 abbrev Names : List ℕ → ℕ → Type 0
@@ -62,18 +61,17 @@ module _ {P : Plan} {picks kept₀ kept : List ℕ} {named p i : ℕ} (c : Picki
           })
 
       -- the pick is on no vehicle
-      pub kept_off : length P ≤ k → Picking P picks kept₀ kept' named' p' (i + 1)
-      kept_off g = skipped (rw (placed_off s P (omega arith)))
+      pub kept_off : is_placed s P ≡ false → Picking P picks kept₀ kept' named' p' (i + 1)
+      kept_off g = skipped (rw g)
 
       -- or on one that is named
-      pub kept-named : k < length P → contains k named ≡ true → Picking P picks kept₀ kept' named' p' (i + 1)
-      kept-named g t = skipped (rw (placed_on s P (omega arith), ← (c.has (vehicle_of s P)), ← ek, t))
+      pub kept-named : is_placed s P ≡ true → contains k named ≡ true → Picking P picks kept₀ kept' named' p' (i + 1)
+      kept-named g t = skipped (rw (g, ← (c.has (vehicle_of s P)), ← ek, t))
 
     -- or it is kept
-    pub kept_more : (kept' : List ℕ) (named' p' : ℕ) → length picks ≤ length kept₀ → k < length P → contains k named ≡ false
+    pub kept_more : (kept' : List ℕ) (named' p' : ℕ) → length picks ≤ length kept₀ → is_placed s P ≡ true → contains k named ≡ false
         → kept' ≡ set kept p s → named' ≡ including k named → p' ≡ p + 1 → Picking P picks kept₀ kept' named' p' (i + 1)
     kept_more kept' named' p' room g t a b d =
-        let placed : is_placed s P ≡ true = placed_on s P (omega arith) in
         let fresh : member (vehicle_of s P) c.names ≡ false = sym (c.has (vehicle_of s P)) ∙ rw (← ek) t in
         let space : p < length kept = omega (arith, c.few, c.long) in
         rw (a, b, d, ek) (record {
@@ -82,7 +80,7 @@ module _ {P : Plan} {picks kept₀ kept : List ℕ} {named p i : ℕ} (c : Picki
           long = length-set kept p s ∙ c.long;
           names = vehicle_of s P ∷ c.names;
           has = names_more (vehicle_of s P) c.names named (including (vehicle_of s P) named) refl c.has;
-          rest = rw (add-one p, take-suc-set kept p s space, append_assoc) (rw (from-here picks i h, placed, fresh) at c.rest);
+          rest = rw (add-one p, take-suc-set kept p s space, append_assoc) (rw (from-here picks i h, g, fresh) at c.rest);
         })
 
 -- all picks are through

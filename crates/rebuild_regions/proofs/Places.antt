@@ -9,12 +9,12 @@ use lib.ListN.{length, get_or}
 use Rattle.model.specs.Lists.{position}
 use Rattle.model.specs.Plan.{Plan, route_of, vehicle_of, is_placed, decode, Lent}
 use Rattle.model.specs.Region.{region_from, region_to}
-use Rattle.model.proofs.Locate.{vehicle-lt, vehicle-none, vehicle-position}
+use Rattle.model.proofs.Locate.{vehicle-lt, vehicle-position}
 use Rattle.model.proofs.PlanForm.{lent_length, route-length, route-end}
 use Rattle.solution.specs.declared.Place.{Place}
 use Rattle.std.specs.Prelude.{Option, Some, None}
 use Rattle.solution.specs.Places.{place_of}
-use Rattle.rebuild_regions.specs.Around.{region_found}
+use Rattle.rebuild_regions.specs.Around.{vehicle_found, region_found}
 
 -- where a placed stop is
 abbrev there_of : ℕ → Plan → Place
@@ -44,20 +44,21 @@ module _ (s : ℕ) (P : Plan) (f : Option Place) (e : f ≡ place_of s P) where
       go true on h = let z : ◌≡◌ {A = ℕ} 0 1 = cc in absurd (omega arith)
       go false off h = off
 
--- the vehicle tells whether a stop is placed
-pub placed_on : (s : ℕ) (P : Plan) → vehicle_of s P < length P → is_placed s P ≡ true
-placed_on s P h = go (is_placed s P) refl
-  where
-    go : (t : Bool) → is_placed s P ≡ t → t ≡ true
-    go true on = refl
-    go false off = absurd (omega (arith, vehicle-none s P off))
+-- the vehicle that is found
+module _ (s : ℕ) (P : Plan) (f : Option ℕ) (e : f ≡ vehicle_found P s) where
+  pub vehicle-there : (k : ℕ) → f ≡ Some k → (is_placed s P ≡ true) × (k ≡ vehicle_of s P)
+  vehicle-there k q = go (is_placed s P) refl e
+    where
+      go : (t : Bool) → is_placed s P ≡ t → f ≡ cond t (Some (vehicle_of s P)) None → (is_placed s P ≡ true) × (k ≡ vehicle_of s P)
+      go true on h = (on, cc)
+      go false off h = let z : ◌≡◌ {A = ℕ} 0 1 = cc in absurd (omega arith)
 
-pub placed_off : (s : ℕ) (P : Plan) → length P ≤ vehicle_of s P → is_placed s P ≡ false
-placed_off s P h = go (is_placed s P) refl
-  where
-    go : (t : Bool) → is_placed s P ≡ t → t ≡ false
-    go true on = absurd (omega (arith, vehicle-lt s P on))
-    go false off = refl
+  pub vehicle_nowhere : f ≡ None → is_placed s P ≡ false
+  vehicle_nowhere q = go (is_placed s P) refl e
+    where
+      go : (t : Bool) → is_placed s P ≡ t → f ≡ cond t (Some (vehicle_of s P)) None → is_placed s P ≡ false
+      go true on h = let z : ◌≡◌ {A = ℕ} 0 1 = cc in absurd (omega arith)
+      go false off h = off
 
 -- within the plan that is lent
 pub record Within (v n : ℕ) (xs : List ℕ) (s : ℕ) (p : Place) : Type 0 where

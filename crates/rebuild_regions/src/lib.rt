@@ -2,25 +2,23 @@
 #![tactic(auto)]
 
 ghost use Rattle.std.specs.Prelude.{◌≡◌, [], ◌≤◌, length, take, drop};
-ghost use Rattle.model.specs.Plan.{decode, vehicle_of, Lent, Sizes};
+ghost use Rattle.model.specs.Plan.{decode, Lent, Sizes};
 ghost use Rattle.model.specs.Region.{keep_picks, region_from, region_to, regions};
-ghost use Rattle.rebuild_regions.specs.Around.{region_found};
+ghost use Rattle.rebuild_regions.specs.Around.{vehicle_found, region_found};
 
 use model::Region;
 
-// The vehicle that a stop is on, v where it is on none.
-fn vehicle_of(plan: &[u32], v: usize, n: usize, stop: u32) -> usize
+// The vehicle that a stop is on, if it is on one.
+fn vehicle_of(plan: &[u32], v: usize, n: usize, stop: u32) -> Option<usize>
     requires { Sizes v n × Lent v n plan.now }
-    ensures { result ≡ vehicle_of stop (decode v plan.now) }
+    ensures { result ≡ vehicle_found (decode v plan.now) stop }
 {
-    match solution::find(plan, v, n, stop) {
-        Some(place) => place.vehicle,
-        None => v,
-    }
+    solution::find(plan, v, n, stop).map(|place| place.vehicle)
 }
 
 // Writes the picks that are placed, of those on one vehicle the first, and returns how many.
 // The vehicles of the picks that were kept are a set, as stops are.
+// A list that is lent and a number, not a Vec: nothing here is taken from the heap.
 fn keep_picks(plan: &[u32], v: usize, n: usize, picks: &[u32], kept: &mut [u32]) -> usize
     requires { Sizes v n × Lent v n plan.now × length picks.now ≤ length kept.old }
     ensures kept_after { take result kept.new ≡ keep_picks (decode v plan.now) [] picks.now }
@@ -29,8 +27,7 @@ fn keep_picks(plan: &[u32], v: usize, n: usize, picks: &[u32], kept: &mut [u32])
     let mut named: u64 = 0;
     let mut p = 0;
     for &pick in picks {
-        let k = vehicle_of(plan, v, n, pick);
-        if k < v {
+        if let Some(k) = vehicle_of(plan, v, n, pick) {
             let vehicle = k as u32;
             if !stop_set::contains(named, vehicle) {
                 named = stop_set::with(named, vehicle);
@@ -63,9 +60,7 @@ fn region_of(plan: &[u32], v: usize, n: usize, pick: u32, size: usize) -> Option
     requires { Sizes v n × Lent v n plan.now × (size ≤ 8) }
     ensures { result ≡ region_found (decode v plan.now) size pick }
 {
-    let Some(place) = solution::find(plan, v, n, pick) else {
-        return None;
-    };
+    let place = solution::find(plan, v, n, pick)?;
     let vehicle = place.vehicle;
     let at = place.position;
     Some(Region {
@@ -76,7 +71,7 @@ fn region_of(plan: &[u32], v: usize, n: usize, pick: u32, size: usize) -> Option
 }
 
 // Writes the regions around one or two picks and returns how many there are: with p of k picks kept, (8 − k) / p stops each. What the list
-// holds after them stays.
+// holds after them stays: it is lent with a number beside, as nothing is on a heap.
 pub fn regions_of(plan: &[u32], v: usize, n: usize, picks: &[u32], out: &mut [Region]) -> usize
     requires sizes { Sizes v n × Lent v n plan.now }
     requires picks_len_bound { (length picks.now ≤ 2) × (2 ≤ length out.old) }

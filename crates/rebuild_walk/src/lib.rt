@@ -62,7 +62,8 @@ fn with_digit(word: u64, digit: u64) -> u64
 
 // Where gap q is the last, meets the arrangement of the word; else fills the later gaps with the stops that are left. Then places each of
 // these next in gap q, and calls itself on those that are left then, down to none. `length` is that of gap q's route up to where the walk
-// stands and behind the gap, `others` what all else costs.
+// stands and behind the gap, `others` what all else costs. These travel together, but as plain numbers they stay in registers at each of the
+// many calls.
 fn walk(
     ways: &Ways,
     frame: &Frame,

@@ -22,7 +22,8 @@ pub fn among(draws: &[u32], place: usize, m: usize) -> usize
 }
 
 // Draws the picks of the round that begins at a place, and says how many they are: k, the centre x, a first pick from S(x), and where k = 2
-// a second one from the rest of S(x). `near` has S(x) of every stop in rows of 64.
+// a second one from the rest of S(x). `near` has S(x) of every stop in rows of 64. The picks are lent with their number beside, as nothing
+// is on a heap.
 pub fn pick(near: &[u32], n: usize, draws: &[u32], place: usize, picks: &mut [u32]) -> usize
     requires { Pickable near.now n draws.now place picks.old }
     ensures { Picked near.now n draws.now place picks.old result picks.new }
