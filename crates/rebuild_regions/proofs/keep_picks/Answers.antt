@@ -41,14 +41,14 @@ loop-pick-preserved c =
       | in-Some+then-not-contains w ↦
           let k = vehicle-there s P c.vehicle_of.result c.vehicle_of.ensures w.in-Some.k w.in-Some.is in
           kept_more c.loop-pick.invariant (omega arith) w.in-Some.k k.1 j.kept j.named j.p
-              c.requires.2 k.0 (sym w.contains.ensures ∙ w.if-not-contains.true) w.kept-is (w.named-is ∙ w.with-named.ensures) w.p-is
+          c.requires.2 k.0 (sym w.contains.ensures ∙ w.if-not-contains.true) w.kept-is (w.named-is ∙ w.with-named.ensures) w.p-is
       | in-Some+else-not-contains w ↦
           let k = vehicle-there s P c.vehicle_of.result c.vehicle_of.ensures w.in-Some.k w.in-Some.is in
           kept-named c.loop-pick.invariant (omega arith) w.in-Some.k k.1 j.kept j.named j.p
-              w.kept-is w.named-is w.p-is k.0 (sym w.contains.ensures ∙ w.if-not-contains.false)
+          w.kept-is w.named-is w.p-is k.0 (sym w.contains.ensures ∙ w.if-not-contains.false)
       | in_default w ↦
           kept_off c.loop-pick.invariant (omega arith) (vehicle_of s P) refl j.kept j.named j.p
-              w.kept-is w.named-is w.p-is (vehicle_nowhere s P c.vehicle_of.result c.vehicle_of.ensures w.in_default.is)
+          w.kept-is w.named-is w.p-is (vehicle_nowhere s P c.vehicle_of.result c.vehicle_of.ensures w.in_default.is)
     ]
 
 pub returns : goal.returns
