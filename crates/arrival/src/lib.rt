@@ -94,8 +94,7 @@ fn best_on(
     let length = distance::route_length(legs, k, route);
     let others = left - delivery::price(length, prices);
     let mut found = best;
-    let mut place = 0;
-    while place <= route.len() {
+    for place in 0..=route.len() {
         let longer = length_with(legs, k, route, length, place, stop);
         let cost = others + delivery::price(longer, prices);
         let new = Best {
@@ -104,7 +103,6 @@ fn best_on(
             cost,
         };
         found = better(v, new, found);
-        place += 1;
     }
     found
 }
@@ -130,11 +128,9 @@ fn best_place(
         place: 0,
         cost: unplaced,
     };
-    let mut k = 0;
-    while k < v {
+    for k in 0..v {
         let route = solution::route(plan, v, n, k);
         found = best_on(legs, v, prices, k, route, left, stop, found);
-        k += 1;
     }
     found
 }

@@ -12,7 +12,13 @@ ghost use Rattle.distance.specs.Table.{Square};
 use model::{Prices, Refusal, Road};
 
 // The first of 1 to 4 that applies, or none.
-fn of_shape(vehicles: &[u32], stops: &[u32], locations: u32, distances: &[u32], plan: &[u32]) -> Result<(), Refusal>
+fn of_shape(
+    vehicles: &[u32],
+    stops: &[u32],
+    locations: u32,
+    distances: &[u32],
+    plan: &[u32],
+) -> Result<(), Refusal>
     ensures { refused result ≡ of_shape vehicles.now stops.now locations distances.now plan.now }
 {
     if call_tests::bad_vehicles(vehicles) {
@@ -31,7 +37,12 @@ fn of_shape(vehicles: &[u32], stops: &[u32], locations: u32, distances: &[u32], 
 }
 
 // The first of 6 and 7 that applies, or none.
-fn of_entries(vehicles: &[u32], stops: &[u32], locations: u32, distances: &[u32]) -> Result<(), Refusal>
+fn of_entries(
+    vehicles: &[u32],
+    stops: &[u32],
+    locations: u32,
+    distances: &[u32],
+) -> Result<(), Refusal>
     ensures { refused result ≡ of_entries vehicles.now stops.now locations distances.now }
 {
     if call_tests::bad_locations(vehicles, stops, locations) {
@@ -54,7 +65,7 @@ pub fn of_start_plan(
     ensures { refused result ≡ refusal StartPlan (asking (job_of vehicles.now stops.now locations distances.now unpriced) plan.now []) }
 {
     of_shape(vehicles, stops, locations, distances, plan)?;
-    of_entries(vehicles, stops, locations, distances)
+    of_entries(vehicles, stops, locations, distances) // 6 and 7 come after 1 to 4
 }
 
 // The first of 1 to 4 and 6 to 8 that applies, or none.
@@ -192,7 +203,8 @@ fn of_live(
     Ok(())
 }
 
-// What arrive is refused with: 1 to 4, 6 to 8, 11, 12, 16, or none.
+// What arrive is refused with: 1 to 4, 6 to 8, 11, 12, 16, or none. It and of_cancel are two functions, as the tables of their calls are two: one
+// function of both would be handed its last test and the refusal of that test, and would read no plainer.
 pub fn of_arrive(
     vehicles: &[u32],
     stops: &[u32],
@@ -237,7 +249,13 @@ pub fn of_cancel(
 }
 
 // What view is refused with: 1, 2, 4, 11, 15, or none.
-pub fn of_view(vehicles: &[u32], stops: &[u32], plan: &[u32], vans: u32, seen: &[u32]) -> Result<(), Refusal>
+pub fn of_view(
+    vehicles: &[u32],
+    stops: &[u32],
+    plan: &[u32],
+    vans: u32,
+    seen: &[u32],
+) -> Result<(), Refusal>
     ensures { refused result ≡ refusal View (looking (tableless vehicles.now stops.now) plan.now vans seen.now) }
 {
     if call_tests::bad_vehicles(vehicles) {
@@ -299,7 +317,13 @@ pub fn of_move_stop(
 }
 
 // The first of 6 and 7 that applies where a road gets longer, or 0. The road is of the table before its entry is looked up.
-fn of_road(vehicles: &[u32], stops: &[u32], locations: u32, distances: &[u32], road: Road) -> Result<(), Refusal>
+fn of_road(
+    vehicles: &[u32],
+    stops: &[u32],
+    locations: u32,
+    distances: &[u32],
+    road: Road,
+) -> Result<(), Refusal>
     requires { Square locations distances.now }
     ensures { refused result ≡ of_road vehicles.now stops.now locations distances.now road }
 {

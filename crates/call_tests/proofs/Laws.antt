@@ -1,42 +1,35 @@
--- Laws of the tests: what a walk over a list has found so far, and comparisons turned round.
+-- Laws of the tests: what a walk over a list answers, and what is known where a test does not apply.
 use mathlib.Core.Path.{◌≡◌, refl, sym, ◌∙◌}
-use mathlib.Core.Bool.{Bool, true, false, not, ◌&&◌}
-use mathlib.Core.List.{List}
-use Prim.Native.Nat.{ℕ, ◌+◌, ◌*◌, ◌/◌, ◌%◌, ◌<◌, ◌≤◌}
-use native.Mathlib.Numerals.{add-one}
-use native.Mathlib.Nat.{mul-le-mul}
+use mathlib.Core.Bool.{Bool, true, false, and-eq-true_iff}
+use mathlib.Core.List.{List, [], ◌∷◌}
+use Prim.Native.Nat.{ℕ, zero, suc, ◌/◌, ◌%◌, ◌<◌, ◌≤◌}
 use native.Mathlib.Omega.{arith}
-use lib.Dec.{ltb, leb, eqb}
-use lib.ListN.{length, drop, get_or}
-use lib.Seq.{drop-cons, drop-length}
-use borrow.Author.Tests.{lt-ltb, le-ltb, le-leb, lt-leb, ltb-true, ltb-false}
-use Rattle.model.specs.Lists.{all_below, all_once}
+use lib.Dec.{ltb, eqb}
+use lib.ListN.{length, get_or}
+use Rattle.std.specs.Prelude.{All, IsTrue, ◌↔◌}
+use borrow.Author.Tests.{lt-ltb, ltb-true, ltb-false}
+use Rattle.model.specs.Lists.{all_below}
 use Rattle.model.proofs.Lists.{neither}
-use Rattle.model.specs.Refusals.{bad_vehicles, bad_stops, bad_given}
+use Rattle.model.specs.Refusals.{bad_vehicles, bad_stops}
 
--- a number below the limit says nothing about the rest of the list
-pub onward : (limit : ℕ) (xs : List ℕ) (i : ℕ) → i < length xs → get_or xs i 0 < limit → all_below limit (drop (i + 1) xs) ≡ all_below limit (drop i xs)
-onward limit xs i h small = rw (add-one, drop-cons xs i 0 h, lt-ltb _ _ small)
+-- a list whose numbers are all below a limit, place by place
+each-below : (limit : ℕ) (xs : List ℕ) → all_below limit xs ≡ true → (k d : ℕ) → k < length xs → get_or xs k d < limit
+each-below limit [] h k d l = absurd (omega arith)
+each-below limit (x ∷ xs) h zero d l = ltb-true x limit ((and-eq-true_iff (ltb x limit) (all_below limit xs)).0 h).0
+each-below limit (x ∷ xs) h (suc k) d l = each-below limit xs ((and-eq-true_iff (ltb x limit) (all_below limit xs)).0 h).1 k d (omega arith)
 
--- one that is not decides the rest
-pub stops : (limit : ℕ) (xs : List ℕ) (i : ℕ) → i < length xs → limit ≤ get_or xs i 0 → all_below limit (drop i xs) ≡ false
-stops limit xs i h large = rw (drop-cons xs i 0 h, le-ltb _ _ large)
+below-each : (limit : ℕ) (xs : List ℕ) → ((k d : ℕ) → k < length xs → get_or xs k d < limit) → all_below limit xs ≡ true
+below-each limit [] f = refl
+below-each limit (x ∷ xs) f = rw (lt-ltb x limit (f zero 0 (omega arith))) (below-each limit xs (λ k d l. f (suc k) d (omega arith)))
 
--- at the end nothing is left to be wrong
-pub at-end : (limit : ℕ) (xs : List ℕ) (i : ℕ) → i ≡ length xs → all_below limit (drop i xs) ≡ true
-at-end limit xs i e = rw (e, drop-length xs)
-
--- b < a where not a ≤ b
-pub over : (a b : ℕ) → ltb a b ≡ not (leb b a)
-over a b = go (ltb a b) refl
+-- what a walk over a list answers is that test
+pub all-below-said : (limit : ℕ) (xs : List ℕ) (b : Bool) → (IsTrue b ↔ All (λ x. x < limit) xs) → b ≡ all_below limit xs
+all-below-said limit xs true h = sym (below-each limit xs (λ k d l. h.0 refl k d l))
+all-below-said limit xs false h = go (all_below limit xs) refl
   where
-    go : (t : Bool) → ltb a b ≡ t → ltb a b ≡ not (leb b a)
-    go true e = rw (lt-leb b a (ltb-true a b e), e)
-    go false e = rw (le-leb b a (ltb-false a b e), e)
-
--- a square is at most the square of a bound
-pub square : (l b : ℕ) → l ≤ b → l * l ≤ b * b
-square l b h = mul-le-mul h h
+    go : (t : Bool) → all_below limit xs ≡ t → false ≡ t
+    go true e = h.1 (λ k d l. each-below limit xs e k d l)
+    go false e = refl
 
 -- what a test answered, said of what it stands for
 pub said : {a b t : Bool} → a ≡ b → a ≡ t → b ≡ t
@@ -51,28 +44,3 @@ few-vehicles vs h = omega (arith, ltb-false 32 (length vs) (neither (eqb (length
 pub few-stops : (ss : List ℕ) → bad_stops ss ≡ false → length ss ≤ 64
 unfolding bad_stops
 few-stops ss h = ltb-false _ _ h
-
--- of three tests the third fails, or does not
-last-fails : (a b : Bool) → true ≡ not (a && (b && false))
-last-fails true true = refl
-last-fails true false = refl
-last-fails false b = refl
-
-last-holds : (a b : Bool) → not (a && b) ≡ not (a && (b && true))
-last-holds true true = refl
-last-holds true false = refl
-last-holds false b = refl
-
--- 12: a list of no stop, of over two, or of one or two
-module _ (n : ℕ) (xs : List ℕ) where
-  pub no-stop : length xs < 1 → true ≡ bad_given n xs
-  unfolding bad_given
-  no-stop h = simp (lt-leb _ _ h) (last-fails (all_below n xs) (all_once xs))
-
-  pub over-two : 1 ≤ length xs → 2 < length xs → true ≡ bad_given n xs
-  unfolding bad_given
-  over-two h k = simp (le-leb _ _ h, lt-leb _ _ k) (last-fails (all_below n xs) (all_once xs))
-
-  pub one-or-two : 1 ≤ length xs → length xs ≤ 2 → not (all_below n xs && all_once xs) ≡ bad_given n xs
-  unfolding bad_given
-  one-or-two h k = simp (le-leb _ _ h, le-leb _ _ k) (last-holds (all_below n xs) (all_once xs))

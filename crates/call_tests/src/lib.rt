@@ -13,25 +13,17 @@ use model::Prices;
 fn all_below(list: &[u32], limit: u32) -> bool
     ensures { result ≡ all_below limit list.now }
 {
-    let mut i = 0;
-    while i < list.len() {
-        if limit <= list[i] {
-            return false;
-        }
-        i += 1;
-    }
-    true
+    list.iter().all(|&x| x < limit)
 }
 
+#[tactic(auto, using(std::proofs::lemmas::Bool::Decides::nat_tests), unfolding(model::specs::Refusals::bad_vehicles))]
 pub fn bad_vehicles(vehicles: &[u32]) -> bool
     ensures { result ≡ bad_vehicles vehicles.now }
 {
-    if vehicles.len() % 2 == 1 {
-        return true;
-    }
-    32 < vehicles.len()
+    vehicles.len() % 2 == 1 || 32 < vehicles.len()
 }
 
+#[tactic(auto, using(std::proofs::lemmas::Bool::Decides::nat_tests), unfolding(model::specs::Refusals::bad_stops))]
 pub fn bad_stops(stops: &[u32]) -> bool
     ensures { result ≡ bad_stops stops.now }
 {
@@ -42,13 +34,11 @@ pub fn bad_stops(stops: &[u32]) -> bool
 pub fn bad_table(locations: u32, distances: &[u32]) -> bool
     ensures { result ≡ bad_table locations distances.now }
 {
-    if 80 < locations {
-        return true;
-    }
     let l = locations as usize;
-    distances.len() != l * l
+    80 < locations || distances.len() != l * l
 }
 
+#[tactic(auto, using(std::proofs::lemmas::Bool::Decides::nat_tests), unfolding(model::specs::Refusals::bad_length))]
 pub fn bad_length(v: usize, n: usize, plan: &[u32]) -> bool
     requires { (v ≤ 16) × (n ≤ 64) }
     ensures { result ≡ bad_length v n plan.now }
@@ -56,25 +46,21 @@ pub fn bad_length(v: usize, n: usize, plan: &[u32]) -> bool
     plan.len() != v + n
 }
 
+#[tactic(auto, using(std::proofs::lemmas::Bool::Decides::nat_tests), unfolding(model::specs::Refusals::bad_draws))]
 pub fn bad_draws(draws: &[u32]) -> bool
     ensures { result ≡ bad_draws draws.now }
 {
-    if draws.len() < 1 {
-        return true;
-    }
-    1024 < draws.len()
+    !(1..=1024).contains(&draws.len())
 }
 
+#[tactic(auto, using(std::proofs::lemmas::Bool::Decides::nat_tests), unfolding(model::specs::Refusals::bad_locations))]
 pub fn bad_locations(vehicles: &[u32], stops: &[u32], locations: u32) -> bool
     ensures { result ≡ bad_locations vehicles.now stops.now locations }
 {
-    if all_below(vehicles, locations) {
-        !all_below(stops, locations)
-    } else {
-        true
-    }
+    !(all_below(vehicles, locations) && all_below(stops, locations))
 }
 
+#[tactic(auto, using(std::proofs::lemmas::Bool::Decides::nat_tests), unfolding(model::specs::Refusals::bad_distances))]
 pub fn bad_distances(distances: &[u32]) -> bool
     ensures { result ≡ bad_distances distances.now }
 {
@@ -85,36 +71,24 @@ pub fn bad_distances(distances: &[u32]) -> bool
 pub fn bad_prices(prices: Prices) -> bool
     ensures { result ≡ bad_prices prices }
 {
-    if 1000000 < prices.linear {
-        return true;
-    }
-    if 16 < prices.quadratic {
-        return true;
-    }
-    10000000000000 < prices.missed
+    1000000 < prices.linear || 16 < prices.quadratic || 10000000000000 < prices.missed
 }
 
 #[tactic(auto, using(std::proofs::lemmas::Bool::Decides::nat_tests), unfolding(model::specs::Refusals::bad_smoothing))]
 pub fn bad_smoothing(smoothing: u32) -> bool
     ensures { result ≡ bad_smoothing smoothing }
 {
-    if smoothing < 1 {
-        return true;
-    }
-    1000 < smoothing
+    !(1..=1000).contains(&smoothing)
 }
 
 #[tactic(auto, using(std::proofs::lemmas::Bool::Decides::nat_tests), unfolding(model::specs::Refusals::bad_limit))]
 pub fn bad_limit(limit: u32) -> bool
     ensures { result ≡ bad_limit limit }
 {
-    if limit < 1 {
-        return true;
-    }
-    1000000 < limit
+    !(1..=1000000).contains(&limit)
 }
 
-// Whether every stop of one set is in another.
+// Whether every stop of one set is in another. A set of stops is one number of 64 bits, so the test is a mask.
 fn inside(part: u64, set: u64) -> bool
     ensures { result ≡ all_live set (stops_of part) }
 {
@@ -126,14 +100,11 @@ pub fn bad_live(v: usize, n: usize, live: u64, plan: &[u32]) -> bool
     ensures { result ≡ bad_live v n live plan.now }
 {
     let placed = solution::placed_set(plan, v, n);
-    if inside(placed, live) {
-        let all = stop_set::below(n as u32);
-        !inside(live, all)
-    } else {
-        true
-    }
+    let all = stop_set::below(n as u32);
+    !(inside(placed, live) && inside(live, all))
 }
 
+#[tactic(auto, using(std::proofs::lemmas::Bool::Decides::nat_tests), unfolding(model::specs::Refusals::bad_arrival))]
 pub fn bad_arrival(live: u64, stop: u32) -> bool
     requires { stop < 64 }
     ensures { result ≡ bad_arrival live stop }
@@ -141,11 +112,12 @@ pub fn bad_arrival(live: u64, stop: u32) -> bool
     stop_set::contains(live, stop)
 }
 
+#[tactic(auto, using(std::proofs::lemmas::Bool::Decides::nat_tests), unfolding(model::specs::Refusals::bad_cancellation, model::specs::Refusals::bad_arrival))]
 pub fn bad_cancellation(live: u64, stop: u32) -> bool
     requires { stop < 64 }
     ensures { result ≡ bad_cancellation live stop }
 {
-    !stop_set::contains(live, stop)
+    !bad_arrival(live, stop)
 }
 
 #[tactic(auto, using(std::proofs::lemmas::Bool::Decides::nat_tests), unfolding(model::specs::Refusals::bad_given))]
@@ -153,20 +125,12 @@ pub fn bad_given(n: usize, given: &[u32]) -> bool
     requires { n ≤ 64 }
     ensures { result ≡ bad_given n given.now }
 {
-    if given.len() < 1 {
-        return true;
-    }
-    if 2 < given.len() {
-        return true;
-    }
-    !plan_form::stops_once(given, n)
+    !(1..=2).contains(&given.len()) || !plan_form::stops_once(given, n)
 }
 
+#[tactic(auto, using(std::proofs::lemmas::Bool::Decides::nat_tests), unfolding(model::specs::Refusals::too_large))]
 pub fn too_large(v: usize, n: usize) -> bool
     ensures { result ≡ too_large v n }
 {
-    if 6 < n {
-        return true;
-    }
-    3 < v
+    6 < n || 3 < v
 }

@@ -18,18 +18,9 @@ use Rattle.model.specs.Rebuild.{exhaustive}
 use Rattle.model.specs.declared.Prices.{Prices}
 use Rattle.model.proofs.Lists.{length-up_from}
 use Rattle.model.proofs.PlanForm.{decode-encode, lent-encode}
-use Rattle.rebuild_words.specs.Gaps.{regions_of}
 use Rattle.rebuild_arrange.specs.Arranged.{Arrangeable, Arranged}
 use Rattle.exhaustive.specs.Full.{full_plan, full_regions}
 use Rattle.exhaustive.proofs.Arranging.{regions-each, length-full, once-full, below-full, drained-full, full-chosen}
-
--- three numbers for each region
-threes : (v n : ℕ) → v ≤ 3 → length (full_regions v n) ≡ 3 * length (regions_of (full_regions v n))
-threes zero n h = refl
-threes (suc zero) n h = refl
-threes (suc (suc zero)) n h = refl
-threes (suc (suc (suc zero))) n h = refl
-threes (suc (suc (suc (suc v)))) n h = absurd (omega arith)
 
 -- each of them a whole route
 module _ (v n : ℕ) where
@@ -42,11 +33,11 @@ module _ (v n : ℕ) where
   later : (k : ℕ) → k ≤ v → Whole (record { vehicle = k; from = 0; to = 0 })
   later k h = record { known = omega (arith, length-full n (suc v)); ordered = omega arith; within = omega arith }
 
-stretches : (v n : ℕ) → v ≤ 3 → Stretches (full_plan v n) (regions_of (full_regions v n))
+stretches : (v n : ℕ) → v ≤ 3 → Stretches (full_plan v n) (full_regions v n)
 stretches zero n h = record { apart = tt; each = λ g i. absurd i }
 stretches (suc zero) n h = record { apart = (λ i. i, tt); each = one }
   where
-    one : (g : Region) → In g (regions_of (full_regions 1 n)) → Whole 0 n g
+    one : (g : Region) → In g (full_regions 1 n) → Whole 0 n g
     one g (inl e) = rw e (first 0 n)
     one g (inr i) = absurd i
 stretches (suc (suc zero)) n h = record { apart = (apart, (λ i. i, tt)); each = two }
@@ -55,7 +46,7 @@ stretches (suc (suc zero)) n h = record { apart = (apart, (λ i. i, tt)); each =
     apart (inl e) = omega arith
     apart (inr i) = i
 
-    two : (g : Region) → In g (regions_of (full_regions 2 n)) → Whole 1 n g
+    two : (g : Region) → In g (full_regions 2 n) → Whole 1 n g
     two g (inl e) = rw e (first 1 n)
     two g (inr (inl e)) = rw e (later 1 n 1 (omega arith))
     two g (inr (inr i)) = absurd i
@@ -70,7 +61,7 @@ stretches (suc (suc (suc zero))) n h = record { apart = (apart, (apart-two, (λ 
     apart-two (inl e) = omega arith
     apart-two (inr i) = i
 
-    three : (g : Region) → In g (regions_of (full_regions 3 n)) → Whole 2 n g
+    three : (g : Region) → In g (full_regions 3 n) → Whole 2 n g
     three g (inl e) = rw e (first 2 n)
     three g (inr (inl e)) = rw e (later 2 n 1 (omega arith))
     three g (inr (inr (inl e))) = rw e (later 2 n 2 (omega arith))
@@ -89,7 +80,6 @@ module _ (t : List ℕ) (v n : ℕ) (p : Prices) (zs : List ℕ) (G : Solvable t
         gapped = record {
           sizes = record { vehicles = omega (arith, G.vehicles); stops = omega (arith, G.stops) };
           plan = rw e (lent-encode v n (full_plan v n) (length-full n v) (once-full n v) (below-full n v));
-          threes = threes v n G.vehicles;
           few = omega (arith, regions-each v n G.vehicles, G.vehicles);
           stretches = rw decoded (stretches v n G.vehicles);
         };

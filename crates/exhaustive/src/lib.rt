@@ -10,7 +10,7 @@ ghost use Rattle.model.specs.Cost.{cost};
 ghost use Rattle.model.specs.Rebuild.{exhaustive};
 ghost use Rattle.exhaustive.specs.Full.{full_plan};
 
-use model::Prices;
+use model::{Prices, Region};
 
 // Writes the plan with every stop on the first vehicle, where there is one.
 fn full(plan: &mut [u32], v: usize, n: usize)
@@ -32,8 +32,23 @@ pub fn exhaustive(legs: &[u32], v: usize, n: usize, prices: Prices, plan: &mut [
     ensures { (J : Job) → Fits J legs.now v n prices → (plan.new ≡ encode n (exhaustive J)) × (result ≡ whole (cost J (exhaustive J))) }
 {
     full(plan, v, n);
-    let regions = [0u32, 0, n as u32, 1, 0, 0, 2, 0, 0];
-    let end = 3 * v;
-    let walk = rebuild_arrange::rearrange(legs, v, n, prices, plan, &regions[..end]);
+    let regions = [
+        Region {
+            vehicle: 0,
+            from: 0,
+            to: n,
+        },
+        Region {
+            vehicle: 1,
+            from: 0,
+            to: 0,
+        },
+        Region {
+            vehicle: 2,
+            from: 0,
+            to: 0,
+        },
+    ];
+    let walk = rebuild_arrange::rearrange(legs, v, n, prices, plan, &regions[..v]);
     walk.cost
 }

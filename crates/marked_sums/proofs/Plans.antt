@@ -19,7 +19,7 @@ use Rattle.model.proofs.Counts.{all_once-once}
 use Rattle.model.proofs.Fillings.{begun-count, completed-count}
 use Rattle.model.proofs.PlanForm.{is_plan-lent}
 use Rattle.model.proofs.Members.{once-distinct}
-use Rattle.rebuild_words.specs.Gaps.{regions_of, Gapped}
+use Rattle.rebuild_words.specs.Gaps.{Gapped}
 
 -- a table of no distances
 zeros : (n i : ℕ) → ◌≡◌ {A = ℕ} (get_or (replicate n 0) i 0) 0
@@ -51,17 +51,16 @@ tested P (u ∷ gs) e g (inl h) =
     })
 
 -- a plan and its regions that pass the tests
-module _ (v n : ℕ) (xs regions : List ℕ) where
-  pub gapped : v ≤ 16 → n ≤ 64 → length xs ≡ v + n → is_plan v n xs ≡ true → length regions ≡ 3 * length (regions_of regions) → length (regions_of regions) ≤ 3
-      → all_once (vehicles_of (regions_of regions)) ≡ true → all_stretches (decode v xs) (regions_of regions) ≡ true → Gapped v n xs regions
-  gapped hv hn l p t f o s = record {
+module _ (v n : ℕ) (xs : List ℕ) (regions : List Region) where
+  pub gapped : v ≤ 16 → n ≤ 64 → length xs ≡ v + n → is_plan v n xs ≡ true → length regions ≤ 3
+      → all_once (vehicles_of regions) ≡ true → all_stretches (decode v xs) regions ≡ true → Gapped v n xs regions
+  gapped hv hn l p f o s = record {
     sizes = record { vehicles = hv; stops = hn };
     plan = is_plan-lent v n xs l p;
-    threes = t;
     few = f;
     stretches = record {
-      apart = once-distinct (vehicles_of (regions_of regions)) (all_once-once (vehicles_of (regions_of regions)) o);
-      each = tested (decode v xs) (regions_of regions) s;
+      apart = once-distinct (vehicles_of regions) (all_once-once (vehicles_of regions) o);
+      each = tested (decode v xs) regions s;
     };
   }
 

@@ -7,16 +7,16 @@ ghost use Rattle.std.specs.Prelude.{◌≡◌, [], ◌∷◌, ◌≤◌, length}
 ghost use Rattle.model.specs.Plan.{decode};
 ghost use Rattle.model.specs.Region.{drained};
 ghost use Rattle.model.specs.Rebuild.{begun, completed};
-ghost use Rattle.rebuild_words.specs.Gaps.{regions_of, Gapped};
+ghost use Rattle.rebuild_words.specs.Gaps.{Gapped};
 
-use model::{Prices, Walk};
+use model::{Prices, Region, Walk};
 use std::io;
 
 // What the walk over the arrangements of a plan's regions counts. All legs are 0 metres long, and nothing has a price.
-fn count(v: usize, n: usize, plan: &[u32], regions: &[u32]) -> Walk
-    requires { Gapped v n plan.now regions.now × (length (drained (decode v plan.now) (regions_of regions.now)) ≤ 7) }
-    ensures begun_value { result.begun ≡ begun (decode v plan.now) (regions_of regions.now) }
-    ensures completed_value { result.completed ≡ completed (decode v plan.now) (regions_of regions.now) }
+fn count(v: usize, n: usize, plan: &[u32], regions: &[Region]) -> Walk
+    requires { Gapped v n plan.now regions.now × (length (drained (decode v plan.now) regions.now) ≤ 7) }
+    ensures begun_value { result.begun ≡ begun (decode v plan.now) regions.now }
+    ensures completed_value { result.completed ≡ completed (decode v plan.now) regions.now }
 {
     let legs = [0u32; 6400];
     let prices = Prices {
@@ -33,14 +33,39 @@ fn count(v: usize, n: usize, plan: &[u32], regions: &[u32]) -> Walk
 fn seven_in_one() -> Walk
     ensures { (result.begun ≡ 13700) × (result.completed ≡ 13700) }
 {
-    count(1, 7, &[7, 0, 1, 2, 3, 4, 5, 6], &[0, 0, 7])
+    count(
+        1,
+        7,
+        &[7, 0, 1, 2, 3, 4, 5, 6],
+        &[Region {
+            vehicle: 0,
+            from: 0,
+            to: 7,
+        }],
+    )
 }
 
 // 6 stops in two gaps.
 fn six_in_two() -> Walk
     ensures { (result.begun ≡ 1957) × (result.completed ≡ 11743) }
 {
-    count(2, 6, &[6, 0, 0, 1, 2, 3, 4, 5], &[0, 0, 6, 1, 0, 0])
+    count(
+        2,
+        6,
+        &[6, 0, 0, 1, 2, 3, 4, 5],
+        &[
+            Region {
+                vehicle: 0,
+                from: 0,
+                to: 6,
+            },
+            Region {
+                vehicle: 1,
+                from: 0,
+                to: 0,
+            },
+        ],
+    )
 }
 
 // No gap.
@@ -58,7 +83,23 @@ fn six_on_three() -> Walk
         3,
         6,
         &[6, 0, 0, 0, 1, 2, 3, 4, 5],
-        &[0, 0, 6, 1, 0, 0, 2, 0, 0],
+        &[
+            Region {
+                vehicle: 0,
+                from: 0,
+                to: 6,
+            },
+            Region {
+                vehicle: 1,
+                from: 0,
+                to: 0,
+            },
+            Region {
+                vehicle: 2,
+                from: 0,
+                to: 0,
+            },
+        ],
     )
 }
 

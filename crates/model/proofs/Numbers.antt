@@ -1,5 +1,5 @@
 -- The numbers of refusals: each refusal has its own, above 0, and a call is refused with one of the table.
-use Rattle.std.specs.Prelude.{◌≡◌, ℕ, Bool, true, false, cond, Result, Err, refl}
+use Rattle.std.specs.Prelude.{◌≡◌, ℕ, Bool, true, false, cond, Err, refl}
 use Rattle.model.specs.declared.refusal.Refusal.{Refusal}
 use Rattle.model.specs.declared.refusal.Refusal.TheVariants.{Vehicles, Stops, Table, Lengths, Draws, Locations, Distances, Prices, Smoothing, Limit, Plan, Given, TooLarge, File, Vans, Live, NotLive}
 use Rattle.model.specs.Numbers.{number_of, answer, refused}

@@ -1,6 +1,6 @@
 -- What `solve` answers, and what is known of the task where it is accepted.
 use mathlib.Core.Path.{◌≡◌, refl, sym, ap, ◌∙◌}
-use Prim.Native.Nat.{ℕ, zero, suc}
+use Prim.Native.Nat.{ℕ}
 use Rattle.model.specs.declared.Totals.{Totals}
 use Rattle.std.specs.Prelude.{Ok, Err}
 use Rattle.model.specs.declared.refusal.Refusal.{Refusal}

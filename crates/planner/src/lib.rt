@@ -1,6 +1,7 @@
 // The public calls, under one name. Each tests its arguments and promises what `Calls` of model defines: a refusal by its number, with
 // the lent plan as it was, or the values, with the new plan in the lent one. None has a precondition. Those that came later stand in
 // crates of their own, and are passed on.
+// Each call fills a leg table of its own, a local of fixed size in its own frame, as there is no heap to hand it out from.
 #![tactic(auto)]
 
 ghost use Rattle.std.specs.Prelude.{[], ◌∷◌};
@@ -64,9 +65,7 @@ pub fn two_opt(
     ensures { Weighs TwoOpt (asking (job_of vehicles.now stops.now locations distances.now prices) plan.old (first ∷ second ∷ [])) result plan.new }
 {
     let both = [first, second];
-    call_refusals::of_rebuild(
-        vehicles, stops, locations, distances, prices, plan, &both,
-    )?;
+    call_refusals::of_rebuild(vehicles, stops, locations, distances, prices, plan, &both)?;
     let mut legs = [0u32; 6400];
     distance::leg_table(vehicles, stops, locations, distances, &mut legs);
     let v = vehicles.len() / 2;
@@ -87,9 +86,7 @@ pub fn rebuild(
 ) -> Result<Walk, Refusal>
     ensures { Rebuilds (asking (job_of vehicles.now stops.now locations distances.now prices) plan.old given.now) result plan.new }
 {
-    call_refusals::of_rebuild(
-        vehicles, stops, locations, distances, prices, plan, given,
-    )?;
+    call_refusals::of_rebuild(vehicles, stops, locations, distances, prices, plan, given)?;
     let mut legs = [0u32; 6400];
     distance::leg_table(vehicles, stops, locations, distances, &mut legs);
     let v = vehicles.len() / 2;

@@ -14,7 +14,7 @@ use Rattle.model.proofs.Numbers.{IsNumber, refusal-number}
 use Rattle.model.specs.Whole.{amount}
 use Rattle.model.specs.Live.{live_cost}
 use Rattle.model.specs.Refusals.{Arguments, Call, StartPlan, Rebuild, Solve, View, MoveStop, Roadworks, refusal}
-use Rattle.model.specs.Calls.{Said, task_of, totals, made, new_live, written, solved, changed, carried, cost_answer, rebuild_answer, start_answer, solve_answer, live_answer, view_answer, move_answer, road_answer, said_by_weighed, said_by_rebuilt, said_by_written, said_by_solved, said_by_changed, said_by_viewed, said_by_moved, said_by_raised, saying, signed_saying, cost_said, rebuild_said, start_said, solve_said, live_said, view_said, move_said, road_said, Weighs, Rebuilds, Writes, Changes, Views, Moves, Raises}
+use Rattle.model.specs.Calls.{Said, task_of, totals, made, new_live, written, solved, changed, carried, cost_answer, rebuild_answer, start_answer, solve_answer, live_answer, view_answer, move_answer, road_answer, said_by_weighed, said_by_rebuilt, said_by_solved, said_by_changed, said_by_viewed, said_by_raised, saying, signed_saying, cost_said, rebuild_said, start_said, solve_said, live_said, view_said, move_said, road_said, Weighs, Rebuilds, Writes, Changes, Views, Moves, Raises}
 use Rattle.planner.specs.Kept.{Keeps, Solves}
 use Rattle.planner_ffi.specs.Border.{value_left, live_left, live_cost_left, Results, results_left, values_in, HandsCost, HandsRebuilt, HandsPlan, HandsChange, HandsView, HandsMove, HandsRise, HandsRun}
 

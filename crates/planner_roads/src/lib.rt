@@ -23,8 +23,6 @@ pub fn roadworks(
     ensures { Raises (lengthening (job_of vehicles.now stops.now locations distances.now prices) plan.now (road_from from to more)) result }
 {
     let road = Road { from, to, more };
-    call_refusals::of_roadworks(
-        vehicles, stops, locations, distances, prices, plan, road,
-    )?;
+    call_refusals::of_roadworks(vehicles, stops, locations, distances, prices, plan, road)?;
     Ok(roads::ceiling(vehicles, stops, locations, distances, prices, plan, road))
 }

@@ -9,7 +9,13 @@ ghost use Rattle.model.specs.Calls.{Views, Moves};
 use model::{Prices, Refusal};
 
 // Shows a plan to a caller who holds a set of vans: the routes of other vans are emptied, and the unplaced stops are answered as a set.
-pub fn view(vehicles: &[u32], stops: &[u32], plan: &[u32], vans: u32, seen: &mut [u32]) -> Result<u64, Refusal>
+pub fn view(
+    vehicles: &[u32],
+    stops: &[u32],
+    plan: &[u32],
+    vans: u32,
+    seen: &mut [u32],
+) -> Result<u64, Refusal>
     ensures { Views (looking (tableless vehicles.now stops.now) plan.now vans seen.old) result seen.new }
 {
     call_refusals::of_view(vehicles, stops, plan, vans, seen)?;

@@ -50,12 +50,9 @@ fn append(plan: &[u32], v: usize, n: usize, k: usize, stop: u32, next: &mut [u32
     requires k_lt_v { (k < v) × (placed (decode v plan.now) < n) × (length next.old ≡ v + n) }
     ensures { next.new ≡ encode n (with_last k stop (decode v plan.now)) }
 {
-    let end = solution::offset(plan, v, k + 1);
-    let last = v + n - 1;
-    pasting::paste(next, 0, &plan[..end]);
-    pasting::paste(next, end + 1, &plan[end..last]);
-    next[k] = plan[k] + 1;
-    next[end] = stop;
+    pasting::copy_plan(plan, next);
+    let end = plan[k] as usize;
+    joining::put_in(next, v, n, k, end, stop);
 }
 
 // The choice among the best plan so far, a plan whose routes cost less than the bound, and all plans that are reached from it.
@@ -82,15 +79,14 @@ fn reach(
     let m = v + n;
     let mut next = [0u32; 9];
     let mut rest = left;
+    // The stops of a set come by its lowest: a set is a number, and a `for` would carry the same number in an iterator of its own.
     while rest != 0 {
         let stop = stop_set::lowest(rest);
         rest = stop_set::without(rest, stop);
         let after = stop_set::without(left, stop);
-        let mut k = 0;
-        while k < v {
+        for k in 0..v {
             append(plan, v, n, k, stop, &mut next[..m]);
             found = reach(legs, v, n, prices, after, &next[..m], cost, best, found);
-            k += 1;
         }
     }
     found

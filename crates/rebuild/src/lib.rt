@@ -5,7 +5,7 @@ ghost use Rattle.std.specs.Prelude.{◌≤◌, length};
 ghost use Rattle.delivery.specs.Costs.{Ready};
 ghost use Rattle.rebuild.specs.Leaves.{Leaves};
 
-use model::{Prices, Walk};
+use model::{Prices, Region, Walk};
 
 // Rebuilds the regions around one or two picks, and returns the new cost, how many fillings of the first region were begun, and how many
 // arrangements were completed. Where no pick is placed there is no region, nothing changes, and both counts are 0.
@@ -20,8 +20,11 @@ pub fn rebuild(
     requires { Ready legs.now v n prices plan.old × (length picks.now ≤ 2) }
     ensures { Leaves legs.now v n prices plan.old picks.now plan.new result }
 {
-    let mut regions = [0u32; 6];
+    let mut regions = [Region {
+        vehicle: 0,
+        from: 0,
+        to: 0,
+    }; 2];
     let p = rebuild_regions::regions_of(plan, v, n, picks, &mut regions);
-    let end = 3 * p;
-    rebuild_arrange::rearrange(legs, v, n, prices, plan, &regions[..end])
+    rebuild_arrange::rearrange(legs, v, n, prices, plan, &regions[..p])
 }

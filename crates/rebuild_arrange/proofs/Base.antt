@@ -9,7 +9,7 @@ use native.Mathlib.Omega.{arith}
 use mathlib.Core.List.{List, [], ◌∷◌}
 use lib.Dec.{eqb}
 use lib.Ieee.{Float, binary64, sub}
-use lib.ListN.{length, drop, drop_of_length-le}
+use lib.ListN.{length, get_or, drop, drop_of_length-le}
 use lib.Seq.{drop-cons}
 use borrow.Author.Tests.{eq-eqb, ne_eqb}
 use Rattle.model.specs.declared.Prices.{Prices}
@@ -17,14 +17,13 @@ use Rattle.model.specs.declared.Region.{Region}
 use Rattle.model.specs.Lists.{In}
 use Rattle.model.specs.Whole.{exact, whole}
 use Rattle.model.specs.Plan.{Plan, Route, route_of, decode}
-use Rattle.model.specs.Region.{vehicles_of, Stretches, region_at}
+use Rattle.model.specs.Region.{vehicles_of, Stretches}
 use Rattle.model.specs.Cost.{over_routes}
 use Rattle.model.proofs.Regions.{first-stretch, later-stretches}
 use Rattle.whole.proofs.Laws.{sub-whole, amount-is}
 use Rattle.delivery.specs.Costs.{table_price, table_driving, table_cost, Ready}
 use Rattle.delivery.proofs.Laws.{cost-small, lent-few}
-use Rattle.rebuild_words.specs.Gaps.{regions_of}
-use Rattle.rebuild_words.proofs.Gaps.{region-at}
+use Rattle.rebuild_words.specs.Gaps.{no_region}
 use Rattle.rebuild_tables.specs.Table.{gap_driving}
 use Rattle.rebuild_arrange.specs.Arranged.{Arrangeable}
 use Rattle.rebuild_arrange.specs.Prepared.{Based}
@@ -90,15 +89,15 @@ module _ (t : List ℕ) (p : Prices) where
 -- ---- the regions' routes subtracted one after another
 
 -- what the plan costs without the regions' routes
-abbrev pub rest_of : List ℕ → ℕ → ℕ → Prices → List ℕ → List ℕ → ℕ
-rest_of t v n p xs regions = table_cost t p n (decode v xs) - gap_driving t p (decode v xs) (regions_of regions)
+abbrev pub rest_of : List ℕ → ℕ → ℕ → Prices → List ℕ → List Region → ℕ
+rest_of t v n p xs regions = table_cost t p n (decode v xs) - gap_driving t p (decode v xs) regions
 
 -- and with those of the regions from q on
-abbrev pub left_from : List ℕ → ℕ → ℕ → Prices → List ℕ → List ℕ → ℕ → ℕ
-left_from t v n p xs regions q = rest_of t v n p xs regions + gap_driving t p (decode v xs) (drop q (regions_of regions))
+abbrev pub left_from : List ℕ → ℕ → ℕ → Prices → List ℕ → List Region → ℕ → ℕ
+left_from t v n p xs regions q = rest_of t v n p xs regions + gap_driving t p (decode v xs) (drop q regions)
 
-pub record Left (t : List ℕ) (v n : ℕ) (p : Prices) (xs regions : List ℕ) (q : ℕ) (r : Float) : Type 0 where
-  pub up_to : q ≤ length (regions_of regions)
+pub record Left (t : List ℕ) (v n : ℕ) (p : Prices) (xs : List ℕ) (regions : List Region) (q : ℕ) (r : Float) : Type 0 where
+  pub up_to : q ≤ length regions
   pub small : left_from t v n p xs regions q ≤ exact
   pub sum : r ≡ whole (left_from t v n p xs regions q)
 
@@ -112,12 +111,12 @@ none_left : (t : List ℕ) (p : Prices) (P : Plan) → gap_driving t p P [] ≡ 
 unfolding gap_driving
 none_left t p P = refl
 
-module _ (t : List ℕ) (v n : ℕ) (p : Prices) (xs regions : List ℕ) (A : Arrangeable t v n p xs regions) where
+module _ (t : List ℕ) (v n : ℕ) (p : Prices) (xs : List ℕ) (regions : List Region) (A : Arrangeable t v n p xs regions) where
   abbrev P : Plan
   P = decode v xs
 
   abbrev gs : List Region
-  gs = regions_of regions
+  gs = regions
 
   pub plan-ready : Ready t v n p xs
   plan-ready = record { legs = A.legs; sizes = A.gapped.sizes; prices = A.prices; plan = A.gapped.plan }
@@ -132,22 +131,22 @@ module _ (t : List ℕ) (v n : ℕ) (p : Prices) (xs regions : List ℕ) (A : Ar
   pub left-none : (c : Float) → c ≡ whole (table_cost t p n P) → Left t v n p xs regions 0 c
   left-none c e = record { up_to = omega arith; small = omega (arith, all_left, cost-exact); sum = e ∙ ap whole (sym all_left) }
 
-  pub left-more : (q : ℕ) (r : Float) → Left t v n p xs regions q r → q < length gs → (u : Region) → u ≡ region_at regions q
-      → (d : Float) → d ≡ whole (table_price t p u.vehicle (route_of P u.vehicle)) → Left t v n p xs regions (q + 1) (sub binary64 r d)
-  left-more q r L h u eu d ed =
-      let g : Region = region_at regions q in
+  pub left-more : (q : ℕ) (r : Float) → Left t v n p xs regions q r → q < length gs
+      → (d : Float) → d ≡ whole (table_price t p (get_or gs q no_region).vehicle (route_of P (get_or gs q no_region).vehicle)) → Left t v n p xs regions (q + 1) (sub binary64 r d)
+  left-more q r L h d ed =
+      let g : Region = get_or gs q no_region in
       let a : ℕ = table_price t p g.vehicle (route_of P g.vehicle) in
       let b : ℕ = gap_driving t p P (drop (q + 1) gs) in
       let e : gap_driving t p P (drop q gs) ≡ a + b =
-      ap (gap_driving t p P) (drop-cons gs q g h)
-      ∙ ap₂ (λ (x : Region) (i : ℕ). gap_driving t p P (x ∷ drop i gs)) (region-at regions q g h) (sym (add-one q))
+      ap (gap_driving t p P) (drop-cons gs q no_region h)
+      ∙ ap (λ (i : ℕ). gap_driving t p P (g ∷ drop i gs)) (sym (add-one q))
       ∙ first-apart t p P g (drop (q + 1) gs)
       in
       let f : left_from t v n p xs regions q - a ≡ left_from t v n p xs regions (q + 1) = omega arith in
       record {
         up_to = omega arith;
         small = omega (arith, L.small);
-        sum = ap₂ (sub binary64) L.sum (ed ∙ ap (λ (x : Region). whole (table_price t p x.vehicle (route_of P x.vehicle))) eu)
+        sum = ap₂ (sub binary64) L.sum ed
             ∙ sub-whole (left_from t v n p xs regions q) a L.small (omega (arith, L.small)) (omega arith)
             ∙ ap whole f;
       }

@@ -3,25 +3,27 @@ use mathlib.Core.Path.{◌≡◌, sym, ap, ap₂, ◌∙◌}
 use Prim.Native.Nat.{ℕ, suc, ◌+◌, ◌-◌, ◌≤◌, ◌<◌}
 use native.Mathlib.Numerals.{add-one}
 use native.Mathlib.Omega.{arith}
-use mathlib.Core.List.{List, []}
+use mathlib.Core.List.{[]}
 use lib.Ieee.{Float, binary64, add}
 use Rattle.model.specs.declared.Prices.{Prices}
 use Rattle.model.specs.Whole.{exact, whole, amount, IsWhole}
 use Rattle.model.specs.Cost.{missed_cost}
 use Rattle.whole.proofs.Laws.{add-whole, amount-is, whole-amount}
 use Rattle.rebuild_fillings.specs.Walk.{empties}
-use Rattle.rebuild_tables.specs.Ways.{vacant_at, base_at, driven_by}
+use Rattle.rebuild_ways.specs.declared.Ways.{Ways}
+use Rattle.rebuild_ways.specs.Ways.{vacant_at, base_at}
+use Rattle.rebuild_tables.specs.Ways.{driven_by}
 use Rattle.rebuild_tables.proofs.Ways.{driven-first, driven-none}
 use Rattle.rebuild_arrange.specs.Prepared.{beside_first, Addable}
 
 -- the sum has all but the empty gaps from q on
-pub record Adding (ways : List Float) (p m q : ℕ) (sum : Float) : Type 0 where
+pub record Adding (ways : Ways) (p m q : ℕ) (sum : Float) : Type 0 where
   pub from : 1 ≤ q
   pub up_to : q ≤ p
   pub known : IsWhole sum
   pub rest : amount sum + driven_by ways q (empties (p - q)) ≡ beside_first ways p m
 
-module _ (ways : List Float) (p m : ℕ) (c : Prices) (A : Addable ways p m c) where
+module _ (ways : Ways) (p m : ℕ) (c : Prices) (A : Addable ways p m c) where
   -- a sum of two that is no more than the whole
   sum-known : (a b : Float) (x y : ℕ) → a ≡ whole x → b ≡ whole y → x + y ≤ beside_first ways p m
       → IsWhole (add binary64 a b) × (amount (add binary64 a b) ≡ x + y)

@@ -1,9 +1,9 @@
 -- The table of ways of a framed plan: what is asked to fill it, and what it tells when it is filled.
 use mathlib.Core.Path.{◌≡◌, refl, sym, ap, ap₂, ◌∙◌, subst}
-use Prim.Native.Nat.{ℕ, ◌+◌, ◌-◌, ◌*◌, ◌/◌, ◌≤◌, ◌<◌}
+use Prim.Native.Nat.{ℕ, zero, suc, ◌+◌, ◌-◌, ◌*◌, ◌/◌, ◌≤◌, ◌<◌}
 use native.Mathlib.Omega.{arith}
 use native.Mathlib.Decide.{dec_lt}
-use mathlib.Core.List.{List, [], ◌++◌}
+use mathlib.Core.List.{List, [], ◌∷◌, ◌++◌}
 use lib.Ieee.{Float}
 use lib.ListN.{length, get_or, take, drop, replicate, length-append, length-drop}
 use lib.Seq.{length-take-le, get_or-drop, get_or-take}
@@ -11,35 +11,39 @@ use Rattle.model.specs.declared.Prices.{Prices}
 use Rattle.model.specs.declared.Region.{Region}
 use Rattle.model.specs.Whole.{exact}
 use Rattle.model.specs.Plan.{Plan, Route, route_of, decode}
-use Rattle.model.specs.Region.{drained, region_at}
+use Rattle.model.specs.Region.{drained}
 use Rattle.model.specs.Legs.{depot, Affordable}
 use Rattle.model.specs.Cost.{price, cost}
 use Rattle.distance.proofs.Laws.{way-small}
 use Rattle.delivery.specs.Costs.{table_cost}
-use Rattle.rebuild_words.specs.Gaps.{regions_of}
-use Rattle.rebuild_survey.specs.Surveys.{before_of, head_of, rest_of, gap_at, Surveyed, Unsurveyed}
+use Rattle.rebuild_words.specs.Gaps.{no_region}
+use Rattle.rebuild_survey.specs.declared.Gap.{Gap}
+use Rattle.rebuild_survey.specs.Surveys.{head_of, rest_of, gap_at, Surveyed, Unsurveyed}
 use Rattle.rebuild_survey.proofs.Surveys.{turn}
 use Rattle.rebuild_fillings.specs.Walk.{Filling, stop_at, plan_at}
 use Rattle.rebuild_fillings.specs.Rows.{Full}
+use Rattle.rebuild_tables.specs.declared.Frame.{Frame}
 use Rattle.rebuild_tables.specs.Frame.{gap_count, drained_count, framed_plan, framed_regions, plan_by, Framing}
-use Rattle.rebuild_tables.specs.Ways.{vacant_at, prices_at, route_by, cost_by}
-use Rattle.rebuild_tables.specs.Table.{stops_from, Fillable, Filled, Grounded}
+use Rattle.rebuild_ways.specs.declared.Ways.{Ways}
+use Rattle.rebuild_ways.specs.Ways.{vacant_at, prices_at}
+use Rattle.rebuild_tables.specs.Ways.{route_by, cost_by}
+use Rattle.rebuild_ways.specs.Table.{Fillable, Filled}
+use Rattle.rebuild_tables.specs.Table.{stops_from, Grounded}
 use Rattle.rebuild_tables.specs.Walks.{FullIn}
 use Rattle.rebuild_tables.proofs.Frames.{drained-many}
 use Rattle.rebuild_tables.proofs.Costs.{measured-way, cost-by, short-by, small_by, job-by}
 use Rattle.rebuild_arrange.specs.Prepared.{Based, Endable, EndsOf, Tableable, Tells}
-use Rattle.rebuild_arrange.proofs.Zeros.{zeros-none}
 
 -- ---- the frame of a plan
 
-module _ (xs : List ℕ) (v n : ℕ) (regions f : List ℕ) (F : Framing xs v n regions f) where
+module _ (xs : List ℕ) (v n : ℕ) (regions : List Region) (f : Frame) (F : Framing xs v n regions f) where
   pub same-plan : framed_plan f ≡ decode v xs
   same-plan = ap₂ decode F.routes F.same
 
-  pub same-regions : framed_regions f ≡ regions_of regions
-  same-regions = ap regions_of F.spans
+  pub same-regions : framed_regions f ≡ regions
+  same-regions = F.spans
 
-  pub same-gaps : gap_count f ≡ length (regions_of regions)
+  pub same-gaps : gap_count f ≡ length regions
   same-gaps = F.framed.gaps ∙ ap length same-regions
 
   same-stops : drained (framed_plan f) (framed_regions f) ≡ stops_from v xs regions
@@ -49,40 +53,59 @@ module _ (xs : List ℕ) (v n : ℕ) (regions f : List ℕ) (F : Framing xs v n 
   same-drained = drained-many f F.framed ∙ ap length same-stops
 
   -- the drained stops stand in the frame
-  stop-at : (i : ℕ) → 1 ≤ i → i ≤ length (stops_from v xs regions) → get_or f (16 + i) 0 ≡ stop_at (stops_from v xs regions) i
+  stop-at : (i : ℕ) → 1 ≤ i → i ≤ length (stops_from v xs regions) → get_or f.listed i 0 ≡ stop_at (stops_from v xs regions) i
   stop-at i a b =
       let h : i - 1 < drained_count f = omega (arith, same-drained) in
-      let k : 17 + (i - 1) ≡ 16 + i = omega arith in
+      let k : 1 + (i - 1) ≡ i = omega arith in
       sym (ap (λ (l : List ℕ). get_or l (i - 1) 0) (sym (F.framed.stops ∙ same-stops))
-      ∙ get_or-take (drained_count f) (drop 17 f) (i - 1) 0 h ∙ get_or-drop 17 f (i - 1) 0 ∙ ap (λ (j : ℕ). get_or f j 0) k)
+      ∙ get_or-take (drained_count f) (drop 1 f.listed) (i - 1) 0 h ∙ get_or-drop 1 f.listed (i - 1) 0 ∙ ap (λ (j : ℕ). get_or f.listed j 0) k)
 
 -- ---- the gaps that were measured
 
--- past those that were measured stand zeros
-past-gaps : (k b : ℕ) (gaps : List ℕ) → drop k gaps ≡ drop k (replicate b 0) → (i : ℕ) → k ≤ i → get_or gaps i 0 ≡ 0
+-- where nothing is measured
+abbrev pub no_gap : Gap
+no_gap = record { before = 0; after = 0; head = 0; rest = 0 }
+
+no-gaps : (k i : ℕ) → get_or (replicate k no_gap) i no_gap ≡ no_gap
+no-gaps zero i = refl
+no-gaps (suc k) zero = refl
+no-gaps (suc k) (suc i) = no-gaps k i
+
+-- past those that were measured
+past-gaps : (k b : ℕ) (gaps : List Gap) → drop k gaps ≡ drop k (replicate b no_gap) → (i : ℕ) → k ≤ i → gap_at gaps i ≡ no_gap
 past-gaps k b gaps e i h =
     let j : k + (i - k) ≡ i = omega arith in
-    ap (λ (x : ℕ). get_or gaps x 0) (sym j)
-    ∙ sym (get_or-drop k gaps (i - k) 0)
-    ∙ ap (λ (l : List ℕ). get_or l (i - k) 0) e
-    ∙ get_or-drop k (replicate b 0) (i - k) 0
-    ∙ zeros-none b (k + (i - k))
+    ap (λ (x : ℕ). gap_at gaps x) (sym j)
+    ∙ sym (get_or-drop k gaps (i - k) no_gap)
+    ∙ ap (λ (l : List Gap). gap_at l (i - k)) e
+    ∙ get_or-drop k (replicate b no_gap) (i - k) no_gap
+    ∙ no-gaps b (k + (i - k))
 
-module _ (t : List ℕ) (v n : ℕ) (p : Prices) (xs regions f : List ℕ) (c : Float) (old : List Float) (T : Tableable t v n p xs regions f c old)
-    (gaps : List ℕ) (S : Surveyed t v xs regions gaps) (U : Unsurveyed regions (replicate 12 0) gaps) where
+-- the places of three gaps, one after another
+abbrev pub three : (Gap → ℕ) → List Gap → List ℕ
+three g gaps = g (gap_at gaps 0) ∷ g (gap_at gaps 1) ∷ g (gap_at gaps 2) ∷ []
+
+three-at : (g : Gap → ℕ) (gaps : List Gap) (q : ℕ) → q < 3 → get_or (three g gaps) q 0 ≡ g (gap_at gaps q)
+three-at g gaps zero h = refl
+three-at g gaps (suc zero) h = refl
+three-at g gaps (suc (suc zero)) h = refl
+three-at g gaps (suc (suc (suc q))) h = absurd (omega arith)
+
+module _ (t : List ℕ) (v n : ℕ) (p : Prices) (xs : List ℕ) (regions : List Region) (f : Frame) (c : Float) (T : Tableable t v n p xs regions f c)
+    (gaps : List Gap) (S : Surveyed t v xs regions gaps) (U : Unsurveyed regions (replicate 3 no_gap) gaps) where
   abbrev P : Plan
   P = decode v xs
 
   abbrev gs : List Region
-  gs = regions_of regions
+  gs = regions
 
   -- both ways along a gap's route make no more than the route with the gap empty
   gap-short : (q : ℕ) → q < length gs → head_of gaps q + rest_of gaps q ≤ 13000000
   gap-short q h =
-      let g : Region = region_at regions q in
+      let g : Region = get_or regions q no_region in
       let k : ℕ = g.vehicle in
       let r : Route = route_of P k in
-      let u = turn v n xs regions T.plan.gapped q (omega (arith, T.plan.gapped.threes)) g refl in
+      let u = turn v n xs regions T.plan.gapped q h in
       omega (
         arith,
         measured-way t k r g.from g.to (gap_at gaps q) (S q h) [],
@@ -95,34 +118,30 @@ module _ (t : List ℕ) (v n : ℕ) (p : Prices) (xs regions f : List ℕ) (c : 
         u.drivable.few,
       )
 
-  past-small : (q side : ℕ) → length gs ≤ q → get_or gaps (4 * q + side) 0 < 80
-  past-small q side h = rw (past-gaps (4 * length gs) 12 gaps U (4 * q + side) (omega arith)) (omega arith)
+  beside-small : (q : ℕ) → Dec (q < length gs) → ((gap_at gaps q).before < 80) × ((gap_at gaps q).after < 80)
+  beside-small q (yes l) = (S q l).near
+  beside-small q (no l) = rw (past-gaps (length gs) 3 gaps U q (omega arith)) (omega arith, omega arith)
 
-  first : (q : ℕ) → get_or gaps (4 * q + 0) 0 ≡ before_of gaps q
-  first q = let e : 4 * q + 0 ≡ 4 * q = omega arith in ap (λ (i : ℕ). get_or gaps i 0) e
+  pub starts-near : Endable f (three (λ g. g.before) gaps)
+  starts-near = record {
+    stops = λ i. omega (arith, T.near i);
+    gaps = λ q h. rw (three-at (λ g. g.before) gaps q h) (beside-small q (dec_lt q (length gs))).0;
+  }
 
-  pub starts-near : Endable f gaps 0
-  starts-near = record { which = omega arith; stops = λ i a b. omega (arith, T.near i a b); gaps = λ q h. go q (dec_lt q (length gs)) }
-    where
-      go : (q : ℕ) → Dec (q < length gs) → get_or gaps (4 * q + 0) 0 < 80
-      go q (yes l) = omega (arith, first q, (S q l).near.0)
-      go q (no l) = past-small q 0 (omega arith)
-
-  pub ends-near : Endable f gaps 1
-  ends-near = record { which = omega arith; stops = λ i a b. omega (arith, T.near i a b); gaps = λ q h. go q (dec_lt q (length gs)) }
-    where
-      go : (q : ℕ) → Dec (q < length gs) → get_or gaps (4 * q + 1) 0 < 80
-      go q (yes l) = (S q l).near.1
-      go q (no l) = past-small q 1 (omega arith)
+  pub ends-near : Endable f (three (λ g. g.after) gaps)
+  ends-near = record {
+    stops = λ i. omega (arith, T.near i);
+    gaps = λ q h. rw (three-at (λ g. g.after) gaps q h) (beside-small q (dec_lt q (length gs))).1;
+  }
 
   -- ---- the table
 
-  module _ (starts ends : List ℕ) (Es : EndsOf f gaps 0 starts) (Ee : EndsOf f gaps 1 ends) (base : Float) (B : Based t v n p xs regions base)
-      (k : ℕ) (ek : k ≡ length regions / 3) where
+  module _ (starts ends : List ℕ) (Es : EndsOf f (three (λ g. g.before) gaps) starts) (Ee : EndsOf f (three (λ g. g.after) gaps) ends) (base : Float) (B : Based t v n p xs regions base)
+      (k : ℕ) (ek : k ≡ length regions) where
     all-gaps : k ≡ length gs
-    all-gaps = omega (arith, T.plan.gapped.threes)
+    all-gaps = ek
 
-    pub fillable : Fillable t p starts ends gaps k base old
+    pub fillable : Fillable t p starts ends gaps k base
     fillable = record {
       legs = T.plan.legs;
       affordable = T.plan.prices;
@@ -131,10 +150,9 @@ module _ (t : List ℕ) (v n : ℕ) (p : Prices) (xs regions f : List ℕ) (c : 
       few = omega (arith, all-gaps, T.plan.gapped.few);
       short = λ q h. gap-short q (omega (arith, all-gaps));
       known = B.known;
-      whole = T.whole;
     }
 
-    module _ (ways : List Float) (W : Filled t p starts ends gaps k base ways) where
+    module _ (ways : Ways) (W : Filled t p starts ends gaps k base ways) where
       grounded : Grounded t v n p xs regions gaps starts ends base ways
       grounded = record {
         legs = T.plan.legs;
@@ -144,8 +162,8 @@ module _ (t : List ℕ) (v n : ℕ) (p : Prices) (xs regions f : List ℕ) (c : 
         few = T.plan.few;
         leaving = λ i a b. Es.stops i a (omega (arith, T.plan.few)) ∙ stop-at xs v n regions f T.framing i a b;
         reaching = λ i a b. Ee.stops i a (omega (arith, T.plan.few)) ∙ stop-at xs v n regions f T.framing i a b;
-        before = λ q h. Es.gaps q (omega (arith, T.plan.gapped.few)) ∙ first q;
-        after = λ q h. Ee.gaps q (omega (arith, T.plan.gapped.few));
+        before = λ q h. let l : q < 3 = omega (arith, T.plan.gapped.few) in Es.gaps q l ∙ three-at (λ g. g.before) gaps q l;
+        after = λ q h. let l : q < 3 = omega (arith, T.plan.gapped.few) in Ee.gaps q l ∙ three-at (λ g. g.after) gaps q l;
         rest = B.rest;
         filled = subst (λ (j : ℕ). Filled t p starts ends gaps j base ways) all-gaps W;
       }
@@ -176,7 +194,6 @@ module _ (t : List ℕ) (v n : ℕ) (p : Prices) (xs regions f : List ℕ) (c : 
       tells = record {
         tabled = record {
           framed = T.framing.framed;
-          whole = W.whole;
           prices = subst Affordable (sym W.priced) T.plan.prices;
           vacant = λ q h. vacant-route q (omega (arith, all-gaps, same-gaps xs v n regions f T.framing));
           short = short;

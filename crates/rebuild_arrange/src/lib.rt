@@ -8,10 +8,11 @@ ghost use Rattle.delivery.specs.Costs.{table_cost};
 ghost use Rattle.rebuild_arrange.specs.Arranged.{Arrangeable, Arranged};
 ghost use Rattle.rebuild_arrange.specs.Prepared.{Based, Endable, EndsOf, beside_first, Addable, Tableable, Tells};
 
-use model::{Prices, Walk};
-use rebuild_frame::BEFORE_FIRST;
-use rebuild_walk::{BEST, CALLS, MOST};
-use rebuild_ways::{GAP, USED};
+use model::{Prices, Region, Walk};
+use rebuild_frame::Beginning;
+use rebuild_survey::Gap;
+use rebuild_tables::{Frame, Kept};
+use rebuild_ways::{GAP, USED, Ways};
 
 // What a plan that costs so much costs without the routes of its regions.
 fn base_of(
@@ -20,7 +21,7 @@ fn base_of(
     n: usize,
     prices: Prices,
     plan: &[u32],
-    regions: &[u32],
+    regions: &[Region],
     cost: f64,
 ) -> f64
     requires arrangeable { Arrangeable legs.now v n prices plan.now regions.now }
@@ -28,79 +29,67 @@ fn base_of(
     ensures { Based legs.now v n prices plan.now regions.now result }
 {
     let mut rest = cost;
-    let mut q = 0;
-    while 3 * q < regions.len() {
-        let region = rebuild_words::region_at(regions, q);
+    for region in regions {
         let route = solution::route(plan, v, n, region.vehicle);
         let length = distance::route_length(legs, region.vehicle, route);
         rest = rest - delivery::price(length, prices);
-        q += 1;
     }
     rest
 }
 
-// Where the legs of a table of ways begin (side 0) or end (side 1): at the drained stops, and at the places before or after the gaps.
-fn ends_of(frame: &[u32; 104], gaps: &[u32; 12], side: usize) -> [u32; 16]
-    requires { Endable frame.now gaps.now side }
-    ensures { EndsOf frame.now gaps.now side result }
+// Where the legs of a table of ways begin, or end: at the drained stops, and at the places before, or after, the gaps.
+fn ends_of(frame: &Frame, places: [usize; 3]) -> [u32; 16]
+    requires { Endable frame.now places }
+    ensures { EndsOf frame.now places result }
 {
     let mut ends = [0u32; 16];
-    let mut i = 1;
-    while i < USED {
+    for i in 1..USED {
         if i < GAP {
-            ends[i] = frame[BEFORE_FIRST + i];
+            ends[i] = frame.listed[i];
         } else {
-            ends[i] = gaps[4 * (i - GAP) + side];
+            ends[i] = places[i - GAP] as u32;
         }
-        i += 1;
     }
     ends
 }
 
 // What all but the first gap's route costs with p gaps empty and all of the m drained stops left.
-fn others_of(ways: &[f64; 272], p: usize, m: u32, prices: Prices) -> f64
+fn others_of(ways: &Ways, p: usize, m: u32, prices: Prices) -> f64
     requires { Addable ways.now p m prices }
     ensures { result ≡ whole (beside_first ways.now p m) }
 {
-    let mut sum = rebuild_ways::base(ways) + delivery::missed_cost(m, prices);
-    let mut q = 1;
-    while q < p {
-        sum = sum + rebuild_ways::vacant(ways, q);
-        q += 1;
+    let mut sum = ways.base() + delivery::missed_cost(m, prices);
+    for q in 1..p {
+        sum += ways.vacant(q);
     }
     sum
 }
 
-// Fills the table of ways of a framed plan, which costs so much.
+// The table of ways of a framed plan, which costs so much.
 fn table_ways(
     legs: &[u32],
     v: usize,
     n: usize,
     prices: Prices,
     plan: &[u32],
-    regions: &[u32],
-    frame: &[u32; 104],
+    regions: &[Region],
+    frame: &Frame,
     cost: f64,
-    ways: &mut [f64; 272],
-)
-    requires { Tableable legs.now v n prices plan.now regions.now frame.now cost ways.old }
-    ensures { Tells legs.now v n prices frame.now ways.new }
+) -> Ways
+    requires { Tableable legs.now v n prices plan.now regions.now frame.now cost }
+    ensures { Tells legs.now v n prices frame.now result }
 {
-    let mut gaps = [0u32; 12];
+    let mut gaps = [Gap {
+        before: 0,
+        after: 0,
+        head: 0,
+        rest: 0,
+    }; 3];
     rebuild_survey::survey(legs, plan, v, n, regions, &mut gaps);
     let base = base_of(legs, v, n, prices, plan, regions, cost);
-    let starts = ends_of(frame, &gaps, 0);
-    let ends = ends_of(frame, &gaps, 1);
-    rebuild_ways::fill(
-        legs,
-        prices,
-        &starts,
-        &ends,
-        &gaps,
-        regions.len() / 3,
-        base,
-        ways,
-    );
+    let starts = ends_of(frame, [gaps[0].before, gaps[1].before, gaps[2].before]);
+    let ends = ends_of(frame, [gaps[0].after, gaps[1].after, gaps[2].after]);
+    Ways::filled(legs, prices, &starts, &ends, &gaps, regions.len(), base)
 }
 
 // Walks all arrangements of one region or more of a plan that costs so much, and writes the best.
@@ -110,7 +99,7 @@ fn arrange_gaps(
     n: usize,
     prices: Prices,
     plan: &[u32],
-    regions: &[u32],
+    regions: &[Region],
     cost: f64,
     best: &mut [u32],
 ) -> Walk
@@ -118,43 +107,36 @@ fn arrange_gaps(
     requires cost_value { (cost ≡ whole (table_cost legs.now prices n (decode v plan.now))) × (length best.old ≡ v + n) }
     ensures { Arranged legs.now v n prices plan.now regions.now best.new result }
 {
-    let mut frame = [0u32; 104];
-    let own = rebuild_frame::fill(&mut frame, plan, v, n, regions);
-    let mut ways = [0.0; 272];
-    table_ways(legs, v, n, prices, plan, regions, &frame, cost, &mut ways);
+    let Beginning { frame, own } = rebuild_frame::fill(plan, v, n, regions);
+    let ways = table_ways(legs, v, n, prices, plan, regions, &frame, cost);
     let p = rebuild_frame::gaps(&frame);
     let others = others_of(&ways, p, rebuild_frame::drained(&frame), prices);
-    let mut kept = [0u64; 6];
-    kept[BEST] = own;
-    kept[MOST] = rebuild_frame::placed(&frame) as u64;
+    let mut kept = Kept::new(own, rebuild_frame::placed(&frame) as u64);
     let found = rebuild_walk::visit(&ways, &frame, &mut kept, others, cost);
-    let word = kept[BEST];
-    rebuild_frame::plan_of(&frame, word, best);
-    let begun = kept[CALLS];
-    let completed = kept[CALLS - 1 + p];
+    rebuild_frame::plan_of(&frame, kept.best, best);
     Walk {
         cost: found,
-        begun,
-        completed,
+        begun: kept.calls[0],
+        completed: kept.calls[p - 1],
     }
 }
 
 // Writes the best arrangement of the stops of a plan's regions, and returns its cost, how many fillings of the first region were begun and
-// how many arrangements were completed. A region is three numbers: its vehicle, and where it begins and ends on that vehicle's route.
+// how many arrangements were completed.
 pub fn arrange(
     legs: &[u32],
     v: usize,
     n: usize,
     prices: Prices,
     plan: &[u32],
-    regions: &[u32],
+    regions: &[Region],
     best: &mut [u32],
 ) -> Walk
     requires { Arrangeable legs.now v n prices plan.now regions.now × (length best.old ≡ v + n) }
     ensures { Arranged legs.now v n prices plan.now regions.now best.new result }
 {
     let cost = delivery::cost(legs, v, n, prices, plan);
-    if regions.len() == 0 {
+    if regions.is_empty() {
         pasting::copy_plan(plan, best);
         return Walk {
             cost,
@@ -172,7 +154,7 @@ pub fn rearrange(
     n: usize,
     prices: Prices,
     plan: &mut [u32],
-    regions: &[u32],
+    regions: &[Region],
 ) -> Walk
     requires { Arrangeable legs.now v n prices plan.old regions.now }
     ensures { Arranged legs.now v n prices plan.old regions.now plan.new result }

@@ -21,6 +21,7 @@ use Rattle.rebuild_fillings.specs.Rows.{rows_from, word_of, digits_of, placement
 use Rattle.rebuild_fillings.proofs.Places.{in-up_from}
 use Rattle.rebuild_fillings.proofs.Rows.{Places, length-rows, rows-below, digits-all, placements-zero, placements-stop, placements-gap, word-many, sixteen}
 use Rattle.rebuild_fillings.proofs.Full.{full-places, full-few}
+use Rattle.rebuild_tables.specs.declared.Frame.{Frame}
 use Rattle.rebuild_tables.specs.Frame.{gap_count, drained_count, stops_in, framed_plan, framed_regions, Framed, Placeable}
 
 -- ---- the digits of a word
@@ -77,22 +78,22 @@ module _ (xs : Filling) (h : length xs ≤ 3) (k : length (concat xs) ≤ 7) (pl
 -- ---- a word of a frame
 
 -- the placements that it says
-abbrev pub said : List ℕ → ℕ → Word
+abbrev pub said : Frame → ℕ → Word
 said f w = placements (stops_in f) 0 (digits_of 16 w)
 
 -- the codes of the digits before place i are written, and the other digits are read in gap q
-pub record Read (f : List ℕ) (w i m q : ℕ) (codes : List ℕ) : Type 0 where
+pub record Read (f : Frame) (w i m q : ℕ) (codes : List ℕ) : Type 0 where
   pub up_to : i ≤ 16
   pub few : m ≤ 7
   pub low : q ≤ 7
   pub long : length codes ≡ 7
   pub says : take m codes ++ placements (stops_in f) q (digits_of (16 - i) w) ≡ said f w
 
-pub read_same : (f : List ℕ) (w i m q : ℕ) (codes : List ℕ) → Read f w i m q codes → (codes₁ : List ℕ) (m₁ q₁ : ℕ)
+pub read_same : (f : Frame) (w i m q : ℕ) (codes : List ℕ) → Read f w i m q codes → (codes₁ : List ℕ) (m₁ q₁ : ℕ)
     → codes₁ ≡ codes → m₁ ≡ m → q₁ ≡ q → Read f w i m₁ q₁ codes₁
 read_same f w i m q codes r codes₁ m₁ q₁ a b c = rw (a, b, c) r
 
-module _ (f : List ℕ) (F : Framed f) where
+module _ (f : Frame) (F : Framed f) where
   abbrev P : Plan
   P = framed_plan f
 
@@ -106,7 +107,7 @@ module _ (f : List ℕ) (F : Framed f) where
   stops-below s h = omega (arith, F.gapped.plan.below s (omega (arith, drained-le P gs F.gapped.stretches s)), F.gapped.sizes.stops)
 
   stops-long : length (stops_in f) ≡ drained_count f
-  stops-long = length-take-le (drained_count f) (drop 17 f) (rw length-drop (omega (arith, F.long, F.few)))
+  stops-long = length-take-le (drained_count f) (drop 1 f.listed) (rw length-drop (omega (arith, F.places, F.few)))
 
   pub drained-many : drained_count f ≡ length (drained P gs)
   drained-many = sym stops-long ∙ ap length F.stops
@@ -119,12 +120,12 @@ module _ (f : List ℕ) (F : Framed f) where
 
   -- the stop at a place stands in the frame
   module _ (d : ℕ) (a : 1 ≤ d) (b : d ≤ drained_count f) where
-    pub stop-there : get_or f (16 + d) 0 ≡ stop_at (stops_in f) d
+    pub stop-there : get_or f.listed d 0 ≡ stop_at (stops_in f) d
     stop-there =
-        let e : 17 + (d - 1) ≡ 16 + d = omega arith in
-        sym (get_or-take (drained_count f) (drop 17 f) (d - 1) 0 (omega arith) ∙ get_or-drop 17 f (d - 1) 0 ∙ ap (λ i. get_or f i 0) e)
+        let e : 1 + (d - 1) ≡ d = omega arith in
+        sym (get_or-take (drained_count f) (drop 1 f.listed) (d - 1) 0 (omega arith) ∙ get_or-drop 1 f.listed (d - 1) 0 ∙ ap (λ i. get_or f.listed i 0) e)
 
-    pub stop-small : get_or f (16 + d) 0 < 64
+    pub stop-small : get_or f.listed d 0 < 64
     stop-small = omega (arith, stop-there, stop-below d)
 
   module _ (w : ℕ) (W : Placeable f w) where
@@ -212,10 +213,10 @@ module _ (f : List ℕ) (F : Framed f) where
         some : 1 ≤ d
         some = omega arith
 
-        pub read_known : get_or f (16 + d) 0 < 64
+        pub read_known : get_or f.listed d 0 < 64
         read_known = stop-small d some (digit-known i h some (omega arith))
 
-        placed-says : take m codes ++ (code q (get_or f (16 + d) 0) ∷ after q) ≡ said f w
+        placed-says : take m codes ++ (code q (get_or f.listed d 0) ∷ after q) ≡ said f w
         placed-says =
             ap (λ l. take m codes ++ l)
             (ap (λ s. code q s ∷ after q) (stop-there d some (digit-known i h some (omega arith)))
@@ -227,21 +228,21 @@ module _ (f : List ℕ) (F : Framed f) where
             omega (
               arith,
               ap length placed-says,
-              length-append (take m codes) (code q (get_or f (16 + d) 0) ∷ after q),
+              length-append (take m codes) (code q (get_or f.listed d 0) ∷ after q),
               length-take-le m codes (omega (arith, r.few, r.long)),
               codes-few,
             )
 
-        pub read-stop : Read f w (i + 1) (m + 1) q (set codes m (code q (get_or f (16 + d) 0)))
+        pub read-stop : Read f w (i + 1) (m + 1) q (set codes m (code q (get_or f.listed d 0)))
         read-stop = record {
           up_to = omega arith;
           few = omega (arith, read-room);
           low = r.low;
-          long = length-set codes m (code q (get_or f (16 + d) 0)) ∙ r.long;
+          long = length-set codes m (code q (get_or f.listed d 0)) ∙ r.long;
           says =
               ap (λ l. l ++ after q)
-              (ap (λ k. take k (set codes m (code q (get_or f (16 + d) 0)))) (add-one m)
-              ∙ take-suc-set codes m (code q (get_or f (16 + d) 0)) (omega (arith, read-room, r.long)))
-              ∙ append_assoc (take m codes) (code q (get_or f (16 + d) 0) ∷ []) (after q)
+              (ap (λ k. take k (set codes m (code q (get_or f.listed d 0)))) (add-one m)
+              ∙ take-suc-set codes m (code q (get_or f.listed d 0)) (omega (arith, read-room, r.long)))
+              ∙ append_assoc (take m codes) (code q (get_or f.listed d 0) ∷ []) (after q)
               ∙ placed-says;
         }

@@ -2,13 +2,23 @@
 use Prim.Native.Nat.{ℕ, suc, ◌+◌, ◌-◌, ◌*◌, ◌^◌, ◌≤◌, ◌<◌}
 use native.Mathlib.Omega.{arith}
 use mathlib.Core.Path.{◌≡◌, refl, sym, ap, ap₂, ◌∙◌}
-use mathlib.Core.List.{List, [], ◌∷◌}
+use mathlib.Core.List.{List, [], ◌∷◌, append_assoc}
+use native.Mathlib.Numerals.{add-one}
 use lib.ListN.{length, get_or, set}
-use lib.Seq.{paste, paste-zero}
+use lib.Seq.{paste, paste-zero, paste-suc, take-length}
 use Rattle.model.specs.Lists.{up_from}
-use Rattle.pasting.proofs.Put.{turn, pasted}
+use Rattle.pasting.specs.Put.{put}
 use Rattle.rebuild_fillings.specs.Rows.{number_from}
 use Rattle.rebuild_frame.specs.Listing.{gap_digits, Listable, GapListed}
+
+-- a turn's store takes the copy of i elements of s to the copy of i + 1
+turn : (d dst s : List ℕ) (at i x : ℕ) → dst ≡ paste d at s i → at + i < length d → i < length s → x ≡ get_or s i 0
+    → set dst (at + i) x ≡ paste d at s (i + 1)
+turn d dst s at i x e hd hs ex = rw (e, ex, add-one) (paste-suc d at s i 0 hd hs)
+
+-- the copy of all elements is the whole
+pasted : (d dst s : List ℕ) (at i : ℕ) → dst ≡ paste d at s i → i ≡ length s → dst ≡ put d at s
+pasted d dst s at i e h = rw (e, h, take-length, append_assoc)
 
 -- ---- one gap
 
@@ -22,7 +32,7 @@ pub record Listing (old part : List ℕ) (c w i : ℕ) (frame : List ℕ) (count
   pub up_to : i ≤ length part
   pub number : count ≡ c + i
   pub says : number_from word (up_from (c + i + 1) (length part - i)) ≡ number_from w (up_from (c + 1) (length part))
-  pub holds : frame ≡ paste old (17 + c) part i
+  pub holds : frame ≡ paste old (1 + c) part i
 
 module _ (old part : List ℕ) (q c w : ℕ) (L : Listable old q part c w) where
   -- the word with the gap opened
@@ -43,7 +53,7 @@ module _ (old part : List ℕ) (q c w : ℕ) (L : Listable old q part c w) where
         up_to = omega arith;
         number = omega arith;
         says = ap₂ (λ a b. number_from opened (up_from a b)) e z;
-        holds = paste-zero old (17 + c) part;
+        holds = paste-zero old (1 + c) part;
       }
 
   module _ (i : ℕ) (frame : List ℕ) (count word : ℕ) (l : Listing old part c opened i frame count word) where
@@ -69,15 +79,15 @@ module _ (old part : List ℕ) (q c w : ℕ) (L : Listable old q part c w) where
             L.fits,
           )
 
-      pub listing-more : Listing old part c opened (i + 1) (set frame (16 + (count + 1)) (get_or part i 0)) (count + 1) (word * 16 + (count + 1))
+      pub listing-more : Listing old part c opened (i + 1) (set frame (count + 1) (get_or part i 0)) (count + 1) (word * 16 + (count + 1))
       listing-more =
-          let e : 16 + (count + 1) ≡ 17 + c + i = omega (arith, l.number) in
+          let e : count + 1 ≡ 1 + c + i = omega (arith, l.number) in
           record {
             up_to = omega arith;
             number = omega (arith, l.number);
             says = digit;
             holds =
-                ap (λ k. set frame k (get_or part i 0)) e ∙ turn old frame part (17 + c) i (get_or part i 0) l.holds (omega (arith, L.long, L.room)) h refl;
+                ap (λ k. set frame k (get_or part i 0)) e ∙ turn old frame part (1 + c) i (get_or part i 0) l.holds (omega (arith, L.long, L.room)) h refl;
           }
 
     pub listed : length part ≤ i → GapListed old q part c w frame count word
@@ -87,5 +97,5 @@ module _ (old part : List ℕ) (q c w : ℕ) (L : Listable old q part c w) where
         record {
           number = omega (arith, l.number);
           says = sym (ap (λ k. number_from word (up_from (c + i + 1) k)) z) ∙ l.says ∙ whole;
-          holds = pasted old frame part (17 + c) i l.holds e;
+          holds = pasted old frame part (1 + c) i l.holds e;
         }

@@ -1,19 +1,20 @@
 -- The plan of a word of a frame is written from the frame's parts.
-use Prim.Native.Nat.{ℕ, ◌+◌, ◌-◌, ◌*◌, ◌≤◌}
+use Prim.Native.Nat.{ℕ, ◌≤◌}
 use native.Mathlib.Omega.{arith}
 use mathlib.Core.Path.{◌≡◌, sym, ap, ap₂, ◌∙◌}
 use mathlib.Core.Bool.{Bool}
 use mathlib.Core.List.{List, ◌++◌}
-use lib.ListN.{length, take, drop, length-append}
+use lib.ListN.{length, take, length-append}
 use lib.Seq.{length-take-le, take_at}
 use Rattle.model.specs.Lists.{lower}
-use Rattle.model.specs.Plan.{Plan, decode, encode, placed}
+use Rattle.model.specs.Plan.{Plan, encode, placed}
 use Rattle.model.specs.declared.Region.{Region}
 use Rattle.rebuild_words.specs.Words.{Word, plan_of}
-use Rattle.rebuild_words.specs.Gaps.{regions_of, Gapped}
+use Rattle.rebuild_words.specs.Gaps.{Gapped}
 use Rattle.rebuild_fillings.specs.Rows.{digits_of, placements, filling_of, Full}
 use Rattle.rebuild_fillings.proofs.Rows.{word-plan}
-use Rattle.rebuild_tables.specs.Frame.{gap_count, route_count, stop_total, drained_count, plan_in, regions_in, framed_plan, framed_regions, plan_by, form_of, Framed, Placeable}
+use Rattle.rebuild_tables.specs.declared.Frame.{Frame}
+use Rattle.rebuild_tables.specs.Frame.{gap_count, route_count, stop_total, drained_count, plan_in, framed_plan, framed_regions, plan_by, form_of, Framed, Placeable}
 use Rattle.rebuild_tables.proofs.Plans.{plan-few}
 use Rattle.rebuild_frame.proofs.Codes.{said, stops-below, drained-many, filling-gaps, filling-few, filling-places}
 
@@ -42,7 +43,7 @@ fronts-lower m xs rest ys more a b t ex ey fx fy e = e ∙ ap₂ lower (front_sa
 
 -- ---- the plan of a word
 
-module _ (f : List ℕ) (F : Framed f) (w : ℕ) (W : Placeable f w) where
+module _ (f : Frame) (F : Framed f) (w : ℕ) (W : Placeable f w) where
   abbrev P : Plan
   P = framed_plan f
 
@@ -61,29 +62,18 @@ module _ (f : List ℕ) (F : Framed f) (w : ℕ) (W : Placeable f w) where
   by-few =
       plan-few (route_count f) (stop_total f) (plan_in f) F.gapped.plan gs (filling_of w) (drained_count f) full (drained-many f F) F.gapped.stretches
 
-  -- ---- as the code takes the parts
+  -- ---- as the code takes the parts, of which there are p regions
 
-  abbrev plan_part : List ℕ
-  plan_part = take (24 + route_count f + stop_total f - 24) (drop 24 f)
+  module _ (p : ℕ) (ep : p ≡ gap_count f) where
+    pub parts-gapped : Gapped (route_count f) (stop_total f) (plan_in f) (take p f.regions)
+    parts-gapped = rw ep F.gapped
 
-  abbrev regions_part : List ℕ
-  regions_part = take (5 + 3 * gap_count f - 5) (drop 5 f)
+    module _ (codes : Word) (e : codes ≡ said f w) where
+      parts-plan : plan_of P (take p f.regions) codes ≡ plan_by f (filling_of w)
+      parts-plan = rw (ep, e) said-plan
 
-  plan-same : plan_part ≡ plan_in f
-  plan-same = let e : 24 + route_count f + stop_total f - 24 ≡ route_count f + stop_total f = omega arith in ap (λ k. take k (drop 24 f)) e
+      pub parts-few : placed (plan_of P (take p f.regions) codes) ≤ stop_total f
+      parts-few = rw parts-plan by-few
 
-  regions-same : regions_part ≡ regions_in f
-  regions-same = let e : 5 + 3 * gap_count f - 5 ≡ 3 * gap_count f = omega arith in ap (λ k. take k (drop 5 f)) e
-
-  pub parts-gapped : Gapped (route_count f) (stop_total f) plan_part regions_part
-  parts-gapped = rw (plan-same, regions-same) F.gapped
-
-  module _ (codes : Word) (e : codes ≡ said f w) where
-    parts-plan : plan_of (decode (route_count f) plan_part) (regions_of regions_part) codes ≡ plan_by f (filling_of w)
-    parts-plan = rw (plan-same, regions-same, e) said-plan
-
-    pub parts-few : placed (plan_of (decode (route_count f) plan_part) (regions_of regions_part) codes) ≤ stop_total f
-    parts-few = rw parts-plan by-few
-
-    pub parts-form : (to : List ℕ) → to ≡ encode (stop_total f) (plan_of (decode (route_count f) plan_part) (regions_of regions_part) codes) → to ≡ form_of f w
-    parts-form to t = t ∙ ap (encode (stop_total f)) parts-plan
+      pub parts-form : (to : List ℕ) → to ≡ encode (stop_total f) (plan_of P (take p f.regions) codes) → to ≡ form_of f w
+      parts-form to t = t ∙ ap (encode (stop_total f)) parts-plan

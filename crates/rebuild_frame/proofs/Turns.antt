@@ -9,12 +9,11 @@ use lib.Seq.{take-suc, take_all, length-take-le}
 use Rattle.model.specs.Lists.{up_from, concat, part}
 use Rattle.model.specs.Plan.{Plan, Route, route_of, decode}
 use Rattle.model.specs.declared.Region.{Region}
-use Rattle.model.specs.Region.{drained_from, drained, region_at}
+use Rattle.model.specs.Region.{drained_from, drained}
 use Rattle.model.proofs.Lists.{map-append, concat-append}
 use Rattle.pasting.specs.Put.{put}
 use Rattle.pasting.proofs.Put.{put-put, length-put}
-use Rattle.rebuild_words.specs.Gaps.{regions_of, Gapped}
-use Rattle.rebuild_words.proofs.Gaps.{region-at}
+use Rattle.rebuild_words.specs.Gaps.{no_region, Gapped}
 use Rattle.rebuild_fillings.specs.Walk.{Filling, own_from, own}
 use Rattle.rebuild_fillings.specs.Rows.{number_from, rows_from, word_of}
 use Rattle.rebuild_fillings.proofs.Rows.{word_small, number_from-append, rows_split}
@@ -96,41 +95,38 @@ own-small P gs h k =
 
 pub all_none : (P : Plan) (gs : List Region) (old : List ℕ) → AllListed P (take 0 gs) old old 0 0
 unfolding word_of
-all_none P gs old = record { number = refl; says = refl; holds = sym (take-append-drop 17 old) }
+all_none P gs old = record { number = refl; says = refl; holds = sym (take-append-drop 1 old) }
 
 pub all_listed : (P : Plan) (gs : List Region) (old f : List ℕ) (c w q : ℕ) → AllListed P (take q gs) old f c w → length gs ≤ q → AllListed P gs old f c w
 all_listed P gs old f c w q A h = let e : take q gs ≡ gs = take_all q gs h in rw e at A
 
-module _ (v n : ℕ) (xs regions : List ℕ) (G : Gapped v n xs regions) (few : length (drained (decode v xs) (regions_of regions)) ≤ 7)
-    (old : List ℕ) (long : length old ≡ 104) (q : ℕ) (f : List ℕ) (c w : ℕ) (A : AllListed (decode v xs) (take q (regions_of regions)) old f c w)
-    (h : q < length (regions_of regions)) (u : Region) (eu : u ≡ region_at regions q) (r : Route) (er : r ≡ route_of (decode v xs) u.vehicle) where
+module _ (v n : ℕ) (xs : List ℕ) (regions : List Region) (G : Gapped v n xs regions) (few : length (drained (decode v xs) regions) ≤ 7)
+    (old : List ℕ) (long : length old ≡ 8) (q : ℕ) (f : List ℕ) (c w : ℕ) (A : AllListed (decode v xs) (take q regions) old f c w)
+    (h : q < length regions) (r : Route) (er : r ≡ route_of (decode v xs) (get_or regions q no_region).vehicle) where
   abbrev P : Plan
   P = decode v xs
 
   abbrev gs : List Region
-  gs = regions_of regions
-
-  abbrev d : Region
-  d = region_at regions q
+  gs = regions
 
   abbrev stops : List ℕ
-  stops = part u.from u.to r
+  stops = part (get_or regions q no_region).from (get_or regions q no_region).to r
 
-  stops_same : stops ≡ drained_from P (get_or gs q d)
-  stops_same = ap (part u.from u.to) er ∙ ap (drained_from P) (eu ∙ sym (region-at regions q d h))
+  stops_same : stops ≡ drained_from P (get_or gs q no_region)
+  stops_same = ap (part (get_or regions q no_region).from (get_or regions q no_region).to) er
 
   size : length (drained P (take (q + 1) gs)) ≡ c + length stops
-  size = omega (arith, drained-size P gs d q h, A.number, ap length stops_same)
+  size = omega (arith, drained-size P gs no_region q h, A.number, ap length stops_same)
 
   room : c + length stops ≤ 7
   room = omega (arith, size, drained-few P gs (q + 1))
 
   word_same : number_from w (gap_digits q c (length stops)) ≡ word_of (own P (take (q + 1) gs))
-  word_same = rw (A.says, A.number, stops_same) (word_gap P gs d q h)
+  word_same = rw (A.says, A.number, stops_same) (word_gap P gs no_region q h)
 
   pub turn-listable : Listable f q stops c w
   turn-listable = record {
-    long = ap length A.holds ∙ length-put old (drained P (take q gs)) 17 (omega (arith, drained-few P gs q)) ∙ long;
+    long = ap length A.holds ∙ length-put old (drained P (take q gs)) 1 (omega (arith, drained-few P gs q)) ∙ long;
     room = room;
     fits = rw word_same (own-small P (take (q + 1) gs) (omega (arith, length-take-le (q + 1) gs (omega arith), G.few)) (omega (arith, drained-few P gs (q + 1))));
   }
@@ -140,9 +136,9 @@ module _ (v n : ℕ) (xs regions : List ℕ) (G : Gapped v n xs regions) (few : 
     number = L.number ∙ sym size;
     says = L.says ∙ word_same;
     holds =
-        let k : 17 ≤ length old = omega arith in
+        let k : 1 ≤ length old = omega arith in
         L.holds
-        ∙ ap₂ (λ a b. put a (17 + b) stops) A.holds A.number
-        ∙ put-put old (drained P (take q gs)) stops 17 k
-        ∙ ap (put old 17) (ap (λ l. drained P (take q gs) ++ l) stops_same ∙ sym (drained-more P gs d q h));
+        ∙ ap₂ (λ a b. put a (1 + b) stops) A.holds A.number
+        ∙ put-put old (drained P (take q gs)) stops 1 k
+        ∙ ap (put old 1) (ap (λ l. drained P (take q gs) ++ l) stops_same ∙ sym (drained-more P gs no_region q h));
   }

@@ -1,3 +1,3 @@
 pub mod Places
 pub mod Keeping
-pub mod Reading
+pub mod Around

@@ -1,19 +1,20 @@
 -- What a search for a stop says of its vehicle and its position.
-use Prim.Native.Nat.{ℕ, ◌+◌, ◌*◌, ◌<◌, ◌≤◌}
+use Prim.Native.Nat.{ℕ, ◌<◌, ◌≤◌}
+use Rattle.std.specs.Prelude.{Some}
 use native.Mathlib.Omega.{arith}
 use mathlib.Core.Path.{◌≡◌, refl, sym, ap, ◌∙◌}
 use mathlib.Core.Bool.{Bool, true, false, cond}
 use mathlib.Core.List.{List}
-use lib.ListN.{length, get_or, set}
+use lib.ListN.{length, get_or}
 use Rattle.model.specs.Lists.{position}
 use Rattle.model.specs.Plan.{Plan, route_of, vehicle_of, is_placed, decode, Lent}
-use Rattle.model.specs.Region.{region_from, region_to, region_of}
+use Rattle.model.specs.Region.{region_from, region_to}
 use Rattle.model.proofs.Locate.{vehicle-lt, vehicle-none, vehicle-position}
 use Rattle.model.proofs.PlanForm.{lent_length, route-length, route-end}
 use Rattle.solution.specs.declared.Place.{Place}
 use Rattle.std.specs.Prelude.{Option, Some, None}
 use Rattle.solution.specs.Places.{place_of}
-use Rattle.rebuild_regions.specs.Reading.{with_region}
+use Rattle.rebuild_regions.specs.Around.{region_found}
 
 -- where a placed stop is
 abbrev there_of : ℕ → Plan → Place
@@ -80,9 +81,8 @@ there-within v n xs l s p t =
       few = few;
     }
 
--- the three numbers of the region around a placed stop
-pub region-there : (v n : ℕ) (xs : List ℕ) (s : ℕ) (p : Place) → There s (decode v xs) p → Within v n xs s p → (out : List ℕ) (i size k from to : ℕ)
-    → k ≡ p.vehicle → from ≡ region_from size p.position → to ≡ region_to size p.position (get_or xs p.vehicle 0)
-    → set (set (set out (3 * i) k) (3 * i + 1) from) (3 * i + 2) to ≡ with_region out i (region_of (decode v xs) size s)
-unfolding with_region
-region-there v n xs s p t w out i size k from to a b c = rw (a, b, c, w.long, t.vehicle, t.position)
+-- the region around a placed stop
+pub region-there : (v n : ℕ) (xs : List ℕ) (s : ℕ) (p : Place) → There s (decode v xs) p → Within v n xs s p → (size from to : ℕ)
+    → from ≡ region_from size p.position → to ≡ region_to size p.position (get_or xs p.vehicle 0)
+    → Some (record { vehicle = p.vehicle; from = from; to = to }) ≡ region_found (decode v xs) size s
+region-there v n xs s p t w size from to a b = rw (t.placed, a, b, w.long, t.vehicle, t.position)

@@ -1,10 +1,12 @@
 // The regions of a rebuild: which stretches of which routes are drained.
 #![tactic(auto)]
 
-ghost use Rattle.std.specs.Prelude.{◌≡◌, true, [], ◌+◌, ◌*◌, ◌≤◌, length, take, drop};
-ghost use Rattle.model.specs.Plan.{decode, vehicle_of, is_placed, Lent, Sizes};
-ghost use Rattle.model.specs.Region.{keep_picks, region_from, region_to, region_of, regions};
-ghost use Rattle.rebuild_regions.specs.Reading.{read_regions, with_region};
+ghost use Rattle.std.specs.Prelude.{◌≡◌, [], ◌≤◌, length, take, drop};
+ghost use Rattle.model.specs.Plan.{decode, vehicle_of, Lent, Sizes};
+ghost use Rattle.model.specs.Region.{keep_picks, region_from, region_to, regions};
+ghost use Rattle.rebuild_regions.specs.Around.{region_found};
+
+use model::Region;
 
 // The vehicle that a stop is on, v where it is on none.
 fn vehicle_of(plan: &[u32], v: usize, n: usize, stop: u32) -> usize
@@ -26,9 +28,7 @@ fn keep_picks(plan: &[u32], v: usize, n: usize, picks: &[u32], kept: &mut [u32])
 {
     let mut named: u64 = 0;
     let mut p = 0;
-    let mut i = 0;
-    while i < picks.len() {
-        let pick = picks[i];
+    for &pick in picks {
         let k = vehicle_of(plan, v, n, pick);
         if k < v {
             let vehicle = k as u32;
@@ -38,7 +38,6 @@ fn keep_picks(plan: &[u32], v: usize, n: usize, picks: &[u32], kept: &mut [u32])
                 p += 1;
             }
         }
-        i += 1;
     }
     p
 }
@@ -47,11 +46,7 @@ fn keep_picks(plan: &[u32], v: usize, n: usize, picks: &[u32], kept: &mut [u32])
 fn region_from(size: usize, at: usize) -> usize
     ensures { result ≡ region_from size at }
 {
-    let half = size / 2;
-    if at < half {
-        return 0;
-    }
-    at - half
+    at.saturating_sub(size / 2)
 }
 
 // Where it ends, on a route of that length.
@@ -60,36 +55,34 @@ fn region_to(size: usize, at: usize, length: usize) -> usize
     ensures { result ≡ region_to size at length }
 {
     let end = region_from(size, at) + size;
-    if length < end {
-        return length;
-    }
-    end
+    end.min(length)
 }
 
-// Writes the region around a pick that is placed.
-fn region_of(plan: &[u32], v: usize, n: usize, pick: u32, size: usize, out: &mut [u32], i: usize)
-    requires sizes { Sizes v n × Lent v n plan.now }
-    requires size_bound { (size ≤ 8) × (is_placed pick (decode v plan.now) ≡ true) }
-    requires i_bound { (i ≤ 2) × (3 * i + 3 ≤ length out.old) }
-    ensures { out.new ≡ with_region out.old i (region_of (decode v plan.now) size pick) }
+// The region around a pick that is placed.
+fn region_of(plan: &[u32], v: usize, n: usize, pick: u32, size: usize) -> Option<Region>
+    requires { Sizes v n × Lent v n plan.now × (size ≤ 8) }
+    ensures { result ≡ region_found (decode v plan.now) size pick }
 {
     let Some(place) = solution::find(plan, v, n, pick) else {
-        return;
+        return None;
     };
-    let k = place.vehicle;
+    let vehicle = place.vehicle;
     let at = place.position;
-    out[3 * i] = k as u32;
-    out[3 * i + 1] = region_from(size, at) as u32;
-    out[3 * i + 2] = region_to(size, at, plan[k] as usize) as u32;
+    Some(Region {
+        vehicle,
+        from: region_from(size, at),
+        to: region_to(size, at, plan[vehicle] as usize),
+    })
 }
 
 // Writes the regions around one or two picks and returns how many there are: with p of k picks kept, (8 − k) / p stops each. What the list
 // holds after them stays.
-pub fn regions_of(plan: &[u32], v: usize, n: usize, picks: &[u32], out: &mut [u32]) -> usize
+pub fn regions_of(plan: &[u32], v: usize, n: usize, picks: &[u32], out: &mut [Region]) -> usize
     requires sizes { Sizes v n × Lent v n plan.now }
-    requires picks_len_bound { (length picks.now ≤ 2) × (6 ≤ length out.old) }
-    ensures out_after { read_regions result out.new ≡ regions (decode v plan.now) picks.now }
-    ensures out_unchanged { drop (3 * result) out.new ≡ drop (3 * result) out.old }
+    requires picks_len_bound { (length picks.now ≤ 2) × (2 ≤ length out.old) }
+    ensures out_after { take result out.new ≡ regions (decode v plan.now) picks.now }
+    ensures out_unchanged { drop result out.new ≡ drop result out.old }
+    ensures upper_bound { result ≤ length picks.now }
 {
     let mut kept = [0u32; 2];
     let p = keep_picks(plan, v, n, picks, &mut kept);
@@ -97,10 +90,10 @@ pub fn regions_of(plan: &[u32], v: usize, n: usize, picks: &[u32], out: &mut [u3
         return 0;
     }
     let size = (8 - picks.len()) / p;
-    let mut i = 0;
-    while i < p {
-        region_of(plan, v, n, kept[i], size, out, i);
-        i += 1;
+    for i in 0..p {
+        if let Some(region) = region_of(plan, v, n, kept[i], size) {
+            out[i] = region;
+        }
     }
     p
 }

@@ -1,12 +1,14 @@
 // Surveys of gaps: what is known of each gap of a plan in advance.
 #![tactic(auto)]
 
-ghost use Rattle.std.specs.Prelude.{◌≡◌, ◌+◌, ◌*◌, ◌≤◌, ◌<◌, length};
+ghost use Rattle.std.specs.Prelude.{◌≡◌, ◌≤◌, ◌<◌, length};
 ghost use Rattle.model.specs.Legs.{LegTable};
 ghost use Rattle.distance.specs.Ways.{Drivable};
 ghost use Rattle.rebuild_words.specs.Gaps.{Gapped};
 ghost use Rattle.rebuild_survey.specs.Ways.{Stepped, Measured};
-ghost use Rattle.rebuild_survey.specs.Surveys.{Stored, Surveyed, Unsurveyed};
+ghost use Rattle.rebuild_survey.specs.Surveys.{Surveyed, Unsurveyed};
+
+use model::Region;
 
 // A way from a place: its length, and the place where it ends.
 #[derive(Clone, Copy)]
@@ -31,12 +33,10 @@ fn along(legs: &[u32], from: usize, part: &[u32]) -> Way
 {
     let mut sum: u32 = 0;
     let mut last = from;
-    let mut i = 0;
-    while i < part.len() {
-        let next = part[i] as usize;
+    for &stop in part {
+        let next = stop as usize;
         sum += distance::leg(legs, last, next);
         last = next;
-        i += 1;
     }
     Way { length: sum, last }
 }
@@ -67,29 +67,14 @@ fn measure(legs: &[u32], vehicle: usize, route: &[u32], from: usize, to: usize) 
     }
 }
 
-// Writes what is known of gap q.
-fn store(gaps: &mut [u32], q: usize, gap: Gap)
-    requires { (4 * q + 3 < length gaps.old) × (gap.before < 80) × (gap.after < 80) }
-    ensures { Stored gaps.old q gap gaps.new }
-{
-    gaps[4 * q] = gap.before as u32;
-    gaps[4 * q + 1] = gap.after as u32;
-    gaps[4 * q + 2] = gap.head;
-    gaps[4 * q + 3] = gap.rest;
-}
-
-// Writes what is known of each gap of a plan. The numbers after these stay.
-pub fn survey(legs: &[u32], plan: &[u32], v: usize, n: usize, regions: &[u32], gaps: &mut [u32])
-    requires { LegTable legs.now × Gapped v n plan.now regions.now × (length gaps.old ≡ 12) }
+// Writes what is known of each gap of a plan. What stands after these stays.
+pub fn survey(legs: &[u32], plan: &[u32], v: usize, n: usize, regions: &[Region], gaps: &mut [Gap])
+    requires { LegTable legs.now × Gapped v n plan.now regions.now × (length gaps.old ≡ 3) }
     ensures surveyed { Surveyed legs.now v plan.now regions.now gaps.new }
     ensures unsurveyed { Unsurveyed regions.now gaps.old gaps.new }
 {
-    let mut q = 0;
-    while 3 * q < regions.len() {
-        let region = rebuild_words::region_at(regions, q);
+    for (q, region) in regions.iter().enumerate() {
         let route = solution::route(plan, v, n, region.vehicle);
-        let gap = measure(legs, region.vehicle, route, region.from, region.to);
-        store(gaps, q, gap);
-        q += 1;
+        gaps[q] = measure(legs, region.vehicle, route, region.from, region.to);
     }
 }

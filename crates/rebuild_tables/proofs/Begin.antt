@@ -24,9 +24,14 @@ use Rattle.rebuild_fillings.proofs.Calls.{call_count-on, call_count-small}
 use Rattle.rebuild_fillings.proofs.Places.{placed-all, standing-start}
 use Rattle.rebuild_fillings.proofs.Rows.{word-start}
 use Rattle.rebuild_fillings.proofs.Reading.{reached-start, read_done, read_here}
+use Rattle.rebuild_tables.specs.declared.Frame.{Frame}
 use Rattle.rebuild_tables.specs.Frame.{gap_count, drained_count, framed_plan, framed_regions, plan_by}
-use Rattle.rebuild_tables.specs.Ways.{own_at, gone_by}
-use Rattle.rebuild_tables.specs.Meeting.{calls_in, trail, trail_from}
+use Rattle.rebuild_ways.specs.declared.Ways.{Ways}
+use Rattle.rebuild_ways.specs.Ways.{own_at}
+use Rattle.rebuild_tables.specs.Ways.{gone_by}
+use Rattle.rebuild_tables.specs.declared.Kept.{Kept}
+use Rattle.rebuild_tables.specs.Kept.{calls_in}
+use Rattle.rebuild_tables.specs.Meeting.{trail_from}
 use Rattle.rebuild_tables.specs.Walks.{best_plan, Walkable, met_from, plans_met, Walked, Visitable, Visited}
 use Rattle.rebuild_tables.proofs.Ways.{driven-none}
 use Rattle.rebuild_tables.proofs.Frames.{drained-many}
@@ -35,7 +40,7 @@ use Rattle.rebuild_tables.proofs.Frames.{drained-many}
 pub all-places : (m d all left : ℕ) → d ≡ m → stops_of all ≡ up_from 0 (d + 1) → left ≡ excluding 0 all → stops_of left ≡ up_from 1 m
 all-places m d all left ed a e = ap stops_of e ∙ stops-excluding 0 all ∙ ap (without 0) (a ∙ ap (up_from 0) (add-one d)) ∙ ap (up_from 1) ed
 
-module _ (ways : List Float) (f kept : List ℕ) (others best : Float) (W : Visitable ways f kept others best) (left : ℕ)
+module _ (ways : Ways) (f : Frame) (kept : Kept) (others best : Float) (W : Visitable ways f kept others best) (left : ℕ)
     (e : stops_of left ≡ up_from 1 (drained_count f)) where
   abbrev p : ℕ
   p = gap_count f
@@ -96,7 +101,7 @@ module _ (ways : List Float) (f kept : List ℕ) (others best : Float) (W : Visi
   some-gaps : 0 < length gs
   some-gaps = omega (arith, W.tabled.framed.gaps, W.tabled.framed.some)
 
-  module _ (k : List ℕ) (found : Float) (w : Walked ways f kept 0 left 8 k found) where
+  module _ (k : Kept) (found : Float) (w : Walked ways f kept 0 left 8 k found) where
     calls : (r : ℕ) → r < p → calls_in k r ≡ arrangement_count (suc r) (length (drained P gs))
     calls r h =
         let a : suc r - 0 ≡ suc r = omega arith in
@@ -116,5 +121,5 @@ module _ (ways : List Float) (f kept : List ℕ) (others best : Float) (W : Visi
       met =
           let a : suc (p - 1) ≡ length gs = omega (arith, W.tabled.framed.gaps, W.tabled.framed.some) in
           calls (p - 1) (omega (arith, W.tabled.framed.some)) ∙ ap (λ (g : ℕ). arrangement_count g (length (drained P gs))) a ∙ sym (completed-count P gs some-gaps);
-      noted = w.noted ∙ ap (λ (l : List Filling). trail_from (trail kept) (map word_of l)) met_all;
+      noted = w.noted ∙ ap (λ (l : List Filling). trail_from kept.trail (map word_of l)) met_all;
     }

@@ -12,7 +12,7 @@ use Rattle.model.specs.Whole.{exact}
 use Rattle.model.specs.Job.{Job}
 use Rattle.model.specs.Lists.{concat, count, up_from}
 use Rattle.model.specs.Plan.{Plan, Route, route_of, placed, decode}
-use Rattle.model.specs.Region.{Stretches, region_at}
+use Rattle.model.specs.Region.{Stretches}
 use Rattle.model.specs.Rebuild.{replaced}
 use Rattle.model.specs.Legs.{leg_at, depot, Fits}
 use Rattle.model.specs.Cost.{price, missed_cost, cost}
@@ -32,23 +32,20 @@ use Rattle.rebuild_survey.proofs.Ways.{way-on}
 use Rattle.delivery.specs.Costs.{table_price, table_driving, table_cost}
 use Rattle.delivery.proofs.Driving.{table-change}
 use Rattle.delivery.proofs.Laws.{cost-small, table-cost}
-use Rattle.rebuild_words.specs.Gaps.{regions_of}
+use Rattle.rebuild_words.specs.Gaps.{no_region}
 use Rattle.rebuild_words.proofs.Plans.{vehicle_at, spliced_at, replaced-route}
-use Rattle.rebuild_words.proofs.Gaps.{region-at}
 use Rattle.rebuild_fillings.specs.Walk.{Filling, stop_at, named, plan_at}
 use Rattle.rebuild_fillings.specs.Rows.{Full}
 use Rattle.rebuild_fillings.proofs.Places.{in-up_from}
-use Rattle.rebuild_tables.specs.Ways.{way_at, prices_at, way_by, route_by, driven_by, cost_by}
+use Rattle.rebuild_ways.specs.declared.Ways.{Ways}
+use Rattle.rebuild_ways.specs.Ways.{way_at, prices_at}
+use Rattle.rebuild_tables.specs.Ways.{way_by, route_by, driven_by, cost_by}
 use Rattle.rebuild_tables.specs.Table.{gap_driving, stops_from, Grounded}
 use Rattle.rebuild_tables.proofs.Plans.{plan-wide, plan-placed, plan-below}
 
 -- so many missed and so many more
 missed-sum : (p : Prices) (a b : ℕ) → missed_cost p (a + b) ≡ missed_cost p a + missed_cost p b
 missed-sum p a b = rw (missed_cost-is p (a + b), missed_cost-is p a, missed_cost-is p b, add-mul)
-
--- a region where there is none
-none : Region
-none = record { vehicle = 0; from = 0; to = 0 }
 
 -- ---- a route with a gap
 
@@ -75,11 +72,11 @@ measured-way t k r from to g M y =
 -- ---- the routes that regions are on
 
 -- what they cost with other sequences in the regions; the first of them is gap q of the table
-module _ (t : List ℕ) (ways : List Float) (P : Plan) (f : ℕ → ℕ) where
+module _ (t : List ℕ) (ways : Ways) (P : Plan) (f : ℕ → ℕ) where
   driven-from : (gs : List Region) (fill : Filling) (q : ℕ) → Stretches P gs → length fill ≡ length gs
       → ((j i : ℕ) → i ≡ q + j → j < length gs
       → route_by ways i (get_or fill j [])
-      ≡ table_legs t (depot (vehicle_at gs none j)) (spliced_at P none gs j (map f (get_or fill j []))) (depot (vehicle_at gs none j)))
+      ≡ table_legs t (depot (vehicle_at gs no_region j)) (spliced_at P no_region gs j (map f (get_or fill j []))) (depot (vehicle_at gs no_region j)))
       → table_driving t (prices_at ways) 0 (replaced P gs (map (map f) fill)) + gap_driving t (prices_at ways) P gs
       ≡ table_driving t (prices_at ways) 0 P + driven_by ways q fill
   unfolding gap_driving driven_by
@@ -107,13 +104,13 @@ module _ (t : List ℕ) (ways : List Float) (P : Plan) (f : ℕ → ℕ) where
 abbrev pub PlacesTo : ℕ → List ℕ → Type 0
 PlacesTo m x = (i : ℕ) → 1 ≤ count i x → (1 ≤ i) × (i ≤ m)
 
-module _ (t : List ℕ) (v n : ℕ) (p : Prices) (xs regions gaps starts ends : List ℕ) (base : Float) (ways : List Float)
+module _ (t : List ℕ) (v n : ℕ) (p : Prices) (xs : List ℕ) (regions : List Region) (gaps : List Gap) (starts ends : List ℕ) (base : Float) (ways : Ways)
     (G : Grounded t v n p xs regions gaps starts ends base ways) where
   abbrev P : Plan
   P = decode v xs
 
   abbrev gs : List Region
-  gs = regions_of regions
+  gs = regions
 
   abbrev stops : List ℕ
   stops = stops_from v xs regions
@@ -151,7 +148,7 @@ module _ (t : List ℕ) (v n : ℕ) (p : Prices) (xs regions gaps starts ends : 
     -- the route with what fills its gap
     spliced-by : (q : ℕ) → q < length gs
         → route_by ways q (get_or fill q [])
-        ≡ table_legs t (depot (vehicle_at gs none q)) (spliced_at P none gs q (map (stop_at stops) (get_or fill q []))) (depot (vehicle_at gs none q))
+        ≡ table_legs t (depot (vehicle_at gs no_region q)) (spliced_at P no_region gs q (map (stop_at stops) (get_or fill q []))) (depot (vehicle_at gs no_region q))
     unfolding route_by
     spliced-by q h =
         let y : Route = map (stop_at stops) (get_or fill q []) in
@@ -159,23 +156,21 @@ module _ (t : List ℕ) (v n : ℕ) (p : Prices) (xs regions gaps starts ends : 
         let w : way_by ways (8 + q) (get_or fill q []) (8 + q) ≡ table_legs t (before_of gaps q) y (after_of gaps q) =
         way-by (get_or fill q []) (fill-places q) (8 + q) (8 + q) c c ∙ ap₂ (λ (a b : ℕ). table_legs t a y b) (G.before q h) (G.after q h)
         in
-        let g : Region = region_at regions q in
+        let g : Region = get_or gs q no_region in
         let e = measured-way t g.vehicle (route_of P g.vehicle) g.from g.to (gap_at gaps q) (G.surveyed q h) y in
         ap₂ ◌+◌ (G.filled.own q h) w ∙ sym e
-        ∙ sym (ap (λ (u : Region). table_legs t (depot u.vehicle) (spliced u y (route_of P u.vehicle)) (depot u.vehicle)) (region-at regions q none h))
 
     -- that is the length of the route in the plan of the filling
     pub route-by : (q : ℕ) → q < length gs
         → route_by ways q (get_or fill q [])
-        ≡ table_legs t (depot (region_at regions q).vehicle) (route_of X (region_at regions q).vehicle) (depot (region_at regions q).vehicle)
+        ≡ table_legs t (depot (vehicle_at gs no_region q)) (route_of X (vehicle_at gs no_region q)) (depot (vehicle_at gs no_region q))
     route-by q h =
-        let e : route_of X (vehicle_at gs none q) ≡ spliced_at P none gs q (map (stop_at stops) (get_or fill q [])) =
-        replaced-route P none gs (named stops fill) q G.gapped.stretches (length-map fill (map (stop_at stops)) ∙ F.gaps) h
-        ∙ ap (spliced_at P none gs q) (get_or-map (map (stop_at stops)) fill q [])
+        let e : route_of X (vehicle_at gs no_region q) ≡ spliced_at P no_region gs q (map (stop_at stops) (get_or fill q [])) =
+        replaced-route P no_region gs (named stops fill) q G.gapped.stretches (length-map fill (map (stop_at stops)) ∙ F.gaps) h
+        ∙ ap (spliced_at P no_region gs q) (get_or-map (map (stop_at stops)) fill q [])
         in
         spliced-by q h
-        ∙ sym (ap (λ (r : Route). table_legs t (depot (vehicle_at gs none q)) r (depot (vehicle_at gs none q))) e)
-        ∙ ap (λ (u : Region). table_legs t (depot u.vehicle) (route_of X u.vehicle) (depot u.vehicle)) (region-at regions q none h)
+        ∙ sym (ap (λ (r : Route). table_legs t (depot (vehicle_at gs no_region q)) r (depot (vehicle_at gs no_region q))) e)
 
     -- the routes cost what they cost in P, but for the regions' routes, which cost what the table says
     pub driven-by : table_driving t p 0 X + gap_driving t p P gs ≡ table_driving t p 0 P + driven_by ways 0 fill
@@ -215,7 +210,7 @@ module _ (t : List ℕ) (v n : ℕ) (p : Prices) (xs regions gaps starts ends : 
     -- short enough to be priced exactly
     pub short-by : (q : ℕ) → q < length gs → route_by ways q (get_or fill q []) ≤ 16000000
     short-by q h =
-        let k : ℕ = (region_at regions q).vehicle in
+        let k : ℕ = vehicle_at gs no_region q in
         let few = length-le (route_of X k) (concat X) (λ s. count-route s X k) in
         omega (arith, route-by q h, way-small t G.legs (depot k) (route_of X k) (depot k), few, plan-left, known-few, G.gapped.sizes.stops)
 

@@ -2,7 +2,6 @@
 use Prim.Native.Nat.{ℕ, ◌+◌, ◌-◌}
 use native.Mathlib.Omega.{arith}
 use mathlib.Core.Path.{◌≡◌, sym, ap, ◌∙◌, subst}
-use mathlib.Core.List.{List}
 use lib.ListN.{length, drop, length-drop}
 use lib.Seq.{length-take-le}
 use Rattle.model.specs.Lists.{concat}
@@ -10,14 +9,15 @@ use Rattle.model.specs.Plan.{placed}
 use Rattle.model.specs.Region.{drained}
 use Rattle.rebuild_fillings.specs.Walk.{Filling}
 use Rattle.rebuild_fillings.specs.Rows.{Full}
+use Rattle.rebuild_tables.specs.declared.Frame.{Frame}
 use Rattle.rebuild_tables.specs.Frame.{gap_count, placed_count, drained_count, framed_plan, framed_regions, plan_by, Framed}
 use Rattle.rebuild_tables.proofs.Plans.{plan-placed}
 
-module _ (f : List ℕ) (F : Framed f) where
+module _ (f : Frame) (F : Framed f) where
   -- as many as are drained
   pub drained-many : drained_count f ≡ length (drained (framed_plan f) (framed_regions f))
   drained-many =
-      sym (length-take-le (drained_count f) (drop 17 f) (omega (arith, length-drop 17 f, F.long, F.few))) ∙ ap length F.stops
+      sym (length-take-le (drained_count f) (drop 1 f.listed) (omega (arith, length-drop 1 f.listed, F.places, F.few))) ∙ ap length F.stops
 
   -- what a filling places, and what it leaves
   pub framed-placed : (xs : Filling) → Full (gap_count f) (drained_count f) xs

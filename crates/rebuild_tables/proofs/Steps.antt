@@ -9,14 +9,13 @@ use mathlib.Core.Logic.{◌⊎◌, inl, inr}
 use mathlib.Core.List.{List, [], ◌∷◌, ◌++◌, map, append-nil}
 use lib.Dec.{eqb}
 use lib.Ieee.{Float}
-use lib.ListN.{length, set, length-set, length-append}
+use lib.ListN.{length, get_or, length-append}
 use lib.Seq.{get_or-set_same, get_or-set_other}
 use Rattle.model.specs.Lists.{count, without, concat}
 use Rattle.model.specs.StopSet.{stops_of, excluding}
 use Rattle.model.specs.Whole.{whole, amount}
 use Rattle.model.specs.Job.{Job}
 use Rattle.model.specs.Plan.{Plan, placed, encode}
-use Rattle.model.specs.Cost.{cost}
 use Rattle.model.specs.Rebuild.{better, choose}
 use Rattle.model.proofs.Lists.{tested, one_same, one-other, map-append, concat-append}
 use Rattle.whole.proofs.Laws.{amount-is}
@@ -29,13 +28,17 @@ use Rattle.rebuild_fillings.proofs.Calls.{call_count-step, call_count-before}
 use Rattle.rebuild_fillings.proofs.Plans.{choose-next, choose-last, choose-stop, choose-none}
 use Rattle.rebuild_fillings.proofs.Reading.{reached-below, stop-done, stop-here}
 use Rattle.rebuild_fillings.proofs.Full.{full-worded}
+use Rattle.rebuild_tables.specs.declared.Frame.{Frame}
 use Rattle.rebuild_tables.specs.Frame.{gap_count, placed_count, drained_count, plan_by, form_of, Placeable}
+use Rattle.rebuild_ways.specs.declared.Ways.{Ways}
 use Rattle.rebuild_tables.specs.Ways.{cost_by}
-use Rattle.rebuild_tables.specs.Meeting.{best_word, most_placed, calls_in, trail, trail_with, trail_from, placed_with, prefers, wins, Comparable, Met}
+use Rattle.rebuild_tables.specs.declared.Kept.{Kept}
+use Rattle.rebuild_tables.specs.Kept.{calls_in, Counted}
+use Rattle.rebuild_tables.specs.Meeting.{trail_with, trail_from, placed_with, prefers, wins, Comparable, Met}
 use Rattle.rebuild_tables.specs.Walks.{FullIn, later, Here, best_plan, Held, Walkable, met_from, plans_met, Priced, Walked}
 use Rattle.rebuild_fillings.proofs.Places.{standing-size}
 use Rattle.rebuild_tables.proofs.Frames.{framed-placed}
-use Rattle.rebuild_tables.proofs.Weights.{padded, padded-is, done_next, here-next, stop-small, here-stop}
+use Rattle.rebuild_tables.proofs.Weights.{padded, padded-is, done_next, here-next, stop-small}
 
 -- the stops left
 abbrev size : ℕ → ℕ
@@ -47,10 +50,10 @@ trail-append w [] b = refl
 trail-append w (x ∷ a) b = trail-append (trail_with w x) a b
 
 -- what is still to come in the loop
-abbrev met_on : List ℕ → ℕ → ℕ → ℕ → ℕ → List Filling
+abbrev met_on : Frame → ℕ → ℕ → ℕ → ℕ → List Filling
 met_on f q left word next = fillings_at (gap_count f) q (stops_of left) (done_of q word) (here_of q word) (stops_of next)
 
-abbrev plans_on : List ℕ → ℕ → ℕ → ℕ → ℕ → List Plan
+abbrev plans_on : Frame → ℕ → ℕ → ℕ → ℕ → List Plan
 plans_on f q left word next = plans_at (plan_by f) (gap_count f) q (stops_of left) (done_of q word) (here_of q word) (stops_of next)
 
 -- what a turn of the loop adds in gap r
@@ -58,18 +61,18 @@ abbrev turn : ℕ → ℕ → ℕ → ℕ
 turn r q left = call_count r q (size left - 1)
 
 -- the call is counted, and the next gap is walked or the arrangement met
-pub record Opened (ways : List Float) (f : List ℕ) (q left word : ℕ) (entry kept : List ℕ) (found : Float) : Type 0 where
+pub record Opened (ways : Ways) (f : Frame) (q left word : ℕ) (entry kept : Kept) (found : Float) : Type 0 where
   pub held : Held ways f kept found
   pub each : (r : ℕ) → r < gap_count f → calls_in kept r + size left * turn r q left ≡ calls_in entry r + call_count r q (size left)
-  pub noted : trail_from (trail kept) (map word_of (met_on f q left word left)) ≡ trail_from (trail entry) (map word_of (met_from f q left word))
+  pub noted : trail_from kept.trail (map word_of (met_on f q left word left)) ≡ trail_from entry.trail (map word_of (met_from f q left word))
   pub chosen : (J : Job) → Priced J ways f → choose J (best_plan f kept) (plans_on f q left word left) ≡ choose J (best_plan f entry) (plans_met f q left word)
 
 -- the stops of `next` are still to come in gap q, of those that were left when the loop began
-pub record Looping (ways : List Float) (f : List ℕ) (q left word : ℕ) (start kept : List ℕ) (found : Float) (next : ℕ) : Type 0 where
+pub record Looping (ways : Ways) (f : Frame) (q left word : ℕ) (start kept : Kept) (found : Float) (next : ℕ) : Type 0 where
   pub held : Held ways f kept found
   pub within : (t : ℕ) → count t (stops_of next) ≤ count t (stops_of left)
   pub each : (r : ℕ) → r < gap_count f → calls_in kept r + size next * turn r q left ≡ calls_in start r + size left * turn r q left
-  pub noted : trail_from (trail kept) (map word_of (met_on f q left word next)) ≡ trail_from (trail start) (map word_of (met_on f q left word left))
+  pub noted : trail_from kept.trail (map word_of (met_on f q left word next)) ≡ trail_from start.trail (map word_of (met_on f q left word left))
   pub chosen : (J : Job) → Priced J ways f → choose J (best_plan f kept) (plans_on f q left word next) ≡ choose J (best_plan f start) (plans_on f q left word left)
 
 -- the same numbers, the same preference
@@ -78,16 +81,13 @@ prefers-same : (a p : ℕ) (x : List ℕ) (b q : ℕ) (y : List ℕ) {a' p' : �
 prefers-same a p x b q y ea ep ex eb eq ey = rw (ea, ep, ex, eb, eq, ey)
 
 -- one call more in gap q
-abbrev pub bumped : List ℕ → ℕ → List ℕ
-bumped kept q = set kept (2 + q) (calls_in kept q + 1)
-
-bumped-at : (kept : List ℕ) (q r : ℕ) → 2 + q < length kept → calls_in (bumped kept q) r ≡ calls_in kept r + cond (eqb q r) 1 0
-bumped-at kept q r h = elim (tested q r) [
-  | inl e ↦ rw (← e.0) (get_or-set_same kept (2 + q) (calls_in kept q + 1) 0 h ∙ omega (arith, one_same q q refl))
-  | inr f ↦ get_or-set_other kept (2 + q) (2 + r) (calls_in kept q + 1) 0 (λ e. f.0 (omega arith)) ∙ omega (arith, one-other q r f.0)
+counted-at : (q : ℕ) (kept counted : Kept) → Counted q kept counted → q < 3 → (r : ℕ) → calls_in counted r ≡ calls_in kept r + cond (eqb q r) 1 0
+counted-at q kept counted C h r = elim (tested q r) [
+  | inl e ↦ rw (← e.0, C.calls) (get_or-set_same kept.calls q (calls_in kept q + 1) 0 (omega (arith, kept.three)) ∙ omega (arith, one_same q q refl))
+  | inr f ↦ rw C.calls (get_or-set_other kept.calls q r (calls_in kept q + 1) 0 (λ e. f.0 (sym e)) ∙ omega (arith, one-other q r f.0))
 ]
 
-module _ (ways : List Float) (f kept : List ℕ) (q left word : ℕ) (len others best : Float) (c : Walkable ways f kept q left word len others best) where
+module _ (ways : Ways) (f : Frame) (kept : Kept) (q left word : ℕ) (len others best : Float) (c : Walkable ways f kept q left word len others best) where
   abbrev p : ℕ
   p = gap_count f
 
@@ -109,181 +109,162 @@ module _ (ways : List Float) (f kept : List ℕ) (q left word : ℕ) (len others
   pub count-below : calls_in kept q ≤ 390453
   count-below = omega (arith, c.room q c.here.gap, call_count-step q q (size left), one_same q q refl)
 
-  room-six : 2 + q < length kept
-  room-six = omega (arith, gap-low, c.held.long)
+  module _ (counted : Kept) (C : Counted q kept counted) where
+    calls-at : (r : ℕ) → calls_in counted r ≡ calls_in kept r + cond (eqb q r) 1 0
+    calls-at = counted-at q kept counted C gap-low
 
-  same-best : best_word (bumped kept q) ≡ best_word kept
-  same-best = get_or-set_other kept (2 + q) 0 (calls_in kept q + 1) 0 (λ e. omega arith)
+    held-counted : Held ways f counted best
+    held-counted = record { word = rw C.best c.held.word; cost = rw C.best c.held.cost; placed = rw (C.best, C.most) c.held.placed }
 
-  same-most : most_placed (bumped kept q) ≡ most_placed kept
-  same-most = get_or-set_other kept (2 + q) 1 (calls_in kept q + 1) 0 (λ e. omega arith)
+    -- ---- the next gap
 
-  same-trail : trail (bumped kept q) ≡ trail kept
-  same-trail = get_or-set_other kept (2 + q) 5 (calls_in kept q + 1) 0 (λ e. omega (arith, gap-low))
+    module _ (h : q + 1 < p) (w : ℕ) (ew : w ≡ word * 16 + (8 + (q + 1))) where
+      abbrev r : ℕ
+      r = q + 1
 
-  long-bumped : length (bumped kept q) ≡ 6
-  long-bumped = length-set kept (2 + q) (calls_in kept q + 1) ∙ c.held.long
-
-  held-bumped : Held ways f (bumped kept q) best
-  held-bumped = record {
-    long = long-bumped;
-    word = rw same-best c.held.word;
-    cost = rw same-best c.held.cost;
-    placed = rw (same-best, same-most) c.held.placed;
-  }
-
-  -- ---- the next gap
-
-  module _ (h : q + 1 < p) (w : ℕ) (ew : w ≡ word * 16 + (8 + (q + 1))) where
-    abbrev r : ℕ
-    r = q + 1
-
-    pub call_next : (own rest : Float) → Here ways f r left w own rest → Walkable ways f (bumped kept q) r left w own rest best
-    call_next own rest at = record {
-      tabled = c.tabled;
-      here = at;
-      held = held-bumped;
-      room = λ i k. rw (add-one q) (omega (arith, c.room i k, bumped-at kept q i room-six, call_count-step i q (size left)));
-    }
-
-    dn : done_of r w ≡ done_of q word ++ here_of q word ∷ []
-    dn = done_next ways f c.tabled q left word len others c.here h w ew
-
-    hn : here_of r w ≡ []
-    hn = here-next ways f c.tabled q left word len others c.here h w ew
-
-    pub opened-next : (k : List ℕ) (found : Float) → Walked ways f (bumped kept q) r left w k found → Opened ways f q left word kept k found
-    opened-next k found d = record {
-      held = d.held;
-      each = λ i j. omega (arith, rw (add-one q) at (d.counted i j), bumped-at kept q i room-six, call_count-step i q (size left));
-      noted =
-          ap (λ (x : ℕ). trail_from x (map word_of (met_on f q left word left)))
-          (d.noted ∙ ap₂ trail_from same-trail (ap (map word_of) (ap₂ (fillings_from p r L) dn hn)))
-          ∙ sym (trail-append (trail kept) (map word_of ahead) (map word_of (met_on f q left word left)))
-          ∙ ap (trail_from (trail kept))
-          (sym (ap (map word_of) (from_next p q L (done_of q word) (here_of q word) h) ∙ map-append word_of ahead (met_on f q left word left)));
-      chosen = λ J pr.
-          ap (λ (B : Plan). choose J B (plans_on f q left word left))
-          (d.chosen J pr ∙ ap₂ (choose J) (ap (λ (x : ℕ). plan_by f (filling_of x)) same-best) (ap₂ (plans_from (plan_by f) p r L) dn hn))
-          ∙ sym (choose-next (plan_by f) p q L (done_of q word) (here_of q word) J (best_plan f kept) h);
-    }
-      where
-        ahead : List Filling
-        ahead = fillings_from p r L (done_of q word ++ here_of q word ∷ []) []
-
-  -- ---- the arrangement is met
-
-  module _ (h : p ≤ q + 1) where
-    abbrev X : Filling
-    X = done_of q word ++ here_of q word ∷ []
-
-    full : FullIn f X
-    full =
-        let z : later f q ≡ 0 = omega arith in
-        subst (λ (k : ℕ). FullIn f (done_of q word ++ here_of q word ∷ empties k)) z (padded-is ways f c.tabled q left word len others c.here)
-
-    reads : (filling_of word ≡ X) × Placeable f word
-    reads = full-worded p m X full gaps-few c.tabled.framed.few word c.here.at.says
-
-    module _ (cost : Float) (ec : cost ≡ whole (cost_by ways m (padded ways f c.tabled q left word len others c.here))) where
-      cost-here : cost ≡ whole (cost_by ways m X)
-      cost-here =
-          let z : later f q ≡ 0 = omega arith in
-          ec ∙ ap (λ (k : ℕ). whole (cost_by ways m (done_of q word ++ here_of q word ∷ empties k))) z
-
-      pub meet-asks : Comparable f (bumped kept q) word cost best
-      meet-asks = record {
-        long = long-bumped;
-        framed = c.tabled.framed;
-        own = reads.1;
-        other = rw same-best c.held.word;
-        known = (cost_by ways m X, c.tabled.small X full, cost-here);
-        before = (cost_by ways m (filling_of (best_word kept)), c.tabled.small (filling_of (best_word kept)) c.held.word.full, c.held.cost);
+      pub call_next : (own rest : Float) → Here ways f r left w own rest → Walkable ways f counted r left w own rest best
+      call_next own rest at = record {
+        tabled = c.tabled;
+        here = at;
+        held = held-counted;
+        room = λ i k. rw (add-one q) (omega (arith, c.room i k, calls-at i, call_count-step i q (size left)));
       }
 
-      few-left : m - length (concat X) ≡ size left
-      few-left =
-          let e : length (concat X) ≡ length (concat (done_of q word)) + length (here_of q word) = simp (concat-append, append-nil, length-append) in
-          omega (arith, standing-size m q L (done_of q word) (here_of q word) c.here.at.standing)
+      dn : done_of r w ≡ done_of q word ++ here_of q word ∷ []
+      dn = done_next ways f c.tabled q left word len others c.here h w ew
 
-      placed-here : placed (plan_by f X) + size left ≡ placed_count f
-      placed-here = omega (arith, framed-placed f c.tabled.framed X full, few-left)
+      hn : here_of r w ≡ []
+      hn = here-next ways f c.tabled q left word len others c.here h w ew
 
-      pub meet_left : size left ≤ placed_count f
-      meet_left = omega (arith, placed-here)
+      pub opened-next : (k : Kept) (found : Float) → Walked ways f counted r left w k found → Opened ways f q left word kept k found
+      opened-next k found d = record {
+        held = d.held;
+        each = λ i j. omega (arith, rw (add-one q) at (d.counted i j), calls-at i, call_count-step i q (size left));
+        noted =
+            ap (λ (x : ℕ). trail_from x (map word_of (met_on f q left word left)))
+            (d.noted ∙ ap₂ trail_from C.trail (ap (map word_of) (ap₂ (fillings_from p r L) dn hn)))
+            ∙ sym (trail-append kept.trail (map word_of ahead) (map word_of (met_on f q left word left)))
+            ∙ ap (trail_from kept.trail)
+            (sym (ap (map word_of) (from_next p q L (done_of q word) (here_of q word) h) ∙ map-append word_of ahead (met_on f q left word left)));
+        chosen = λ J pr.
+            ap (λ (B : Plan). choose J B (plans_on f q left word left))
+            (d.chosen J pr ∙ ap₂ (choose J) (ap (λ (x : ℕ). plan_by f (filling_of x)) C.best) (ap₂ (plans_from (plan_by f) p r L) dn hn))
+            ∙ sym (choose-next (plan_by f) p q L (done_of q word) (here_of q word) J (best_plan f kept) h);
+      }
+        where
+          ahead : List Filling
+          ahead = fillings_from p r L (done_of q word ++ here_of q word ∷ []) []
 
-      placed-is : placed_with f left ≡ placed (plan_by f X)
-      placed-is = omega (arith, placed-here)
+    -- ---- the arrangement is met
 
-      -- the word wins where its plan is better
-      wins-better : (J : Job) → Priced J ways f → wins f (bumped kept q) (placed_with f left) word cost best ≡ better J (plan_by f X) (best_plan f kept)
-      unfolding better
-      wins-better J pr =
-          let a = amount-is cost (cost_by ways m X) (c.tabled.small X full) cost-here ∙ sym (pr.each X full) in
-          let B : Filling = filling_of (best_word kept) in
-          let b = amount-is best (cost_by ways m B) (c.tabled.small B c.held.word.full) c.held.cost ∙ sym (pr.each B c.held.word.full) in
-          prefers-same (amount cost) (placed_with f left) (form_of f word) (amount best) (most_placed (bumped kept q)) (form_of f (best_word (bumped kept q)))
-          a placed-is (ap₂ (λ (i : ℕ) (x : Filling). encode i (plan_by f x)) (sym pr.total) reads.0)
-          b (same-most ∙ c.held.placed) (ap₂ (λ (i : ℕ) (x : ℕ). encode i (plan_by f (filling_of x))) (sym pr.total) same-best)
+    module _ (h : p ≤ q + 1) where
+      abbrev X : Filling
+      X = done_of q word ++ here_of q word ∷ []
 
-      module _ (k : List ℕ) (found : Float) (M : Met f left word cost best (bumped kept q) k found) where
-        abbrev won : Bool
-        won = wins f (bumped kept q) (placed_with f left) word cost best
+      full : FullIn f X
+      full =
+          let z : later f q ≡ 0 = omega arith in
+          subst (λ (k : ℕ). FullIn f (done_of q word ++ here_of q word ∷ empties k)) z (padded-is ways f c.tabled q left word len others c.here)
 
-        held-met : (won ≡ true) ⊎ (won ≡ false) → Held ways f k found
-        held-met (inl e) =
-            let t = M.taken e in
-            record {
-              long = M.long;
-              word = rw t.0 reads.1;
-              cost = t.2 ∙ cost-here ∙ ap (λ (x : Filling). whole (cost_by ways m x)) (sym (ap filling_of t.0 ∙ reads.0));
-              placed = t.1 ∙ placed-is ∙ ap (λ (x : Filling). placed (plan_by f x)) (sym (ap filling_of t.0 ∙ reads.0));
-            }
-        held-met (inr e) =
-            let t = M.stays e in
-            record {
-              long = M.long;
-              word = rw t.0 held-bumped.word;
-              cost = t.2 ∙ held-bumped.cost ∙ ap (λ (x : ℕ). whole (cost_by ways m (filling_of x))) (sym t.0);
-              placed = t.1 ∙ held-bumped.placed ∙ ap (λ (x : ℕ). placed (plan_by f (filling_of x))) (sym t.0);
-            }
+      reads : (filling_of word ≡ X) × Placeable f word
+      reads = full-worded p m X full gaps-few c.tabled.framed.few word c.here.at.says
 
-        plan-met : (won ≡ true) ⊎ (won ≡ false) → (J : Job) → Priced J ways f
-            → best_plan f k ≡ cond (better J (plan_by f X) (best_plan f kept)) (plan_by f X) (best_plan f kept)
-        plan-met (inl e) J pr = rw (← wins-better J pr, e) (ap (λ (x : ℕ). plan_by f (filling_of x)) (M.taken e).0 ∙ ap (plan_by f) reads.0)
-        plan-met (inr e) J pr = rw (← wins-better J pr, e) (ap (λ (x : ℕ). plan_by f (filling_of x)) ((M.stays e).0 ∙ same-best))
+      module _ (cost : Float) (ec : cost ≡ whole (cost_by ways m (padded ways f c.tabled q left word len others c.here))) where
+        cost-here : cost ≡ whole (cost_by ways m X)
+        cost-here =
+            let z : later f q ≡ 0 = omega arith in
+            ec ∙ ap (λ (k : ℕ). whole (cost_by ways m (done_of q word ++ here_of q word ∷ empties k))) z
 
-        either : (b : Bool) → (b ≡ true) ⊎ (b ≡ false)
-        either true = inl refl
-        either false = inr refl
-
-        pub opened-last : Opened ways f q left word kept k found
-        unfolding trail_from
-        opened-last = record {
-          held = held-met (either won);
-          each = λ i j.
-              omega (
-                arith,
-                M.counts i (omega (arith, gaps-few)),
-                bumped-at kept q i room-six,
-                call_count-step i q (size left),
-                call_count-before i (suc q) (size left) (omega arith),
-              );
-          noted =
-              ap (λ (x : ℕ). trail_from x (map word_of (met_on f q left word left))) (M.noted ∙ ap₂ trail_with same-trail c.here.at.says)
-              ∙ sym (ap (λ l. trail_from (trail kept) (map word_of l)) (from_last p q L (done_of q word) (here_of q word) (omega (arith, c.here.gap))));
-          chosen = λ J pr.
-              ap (λ (B : Plan). choose J B (plans_on f q left word left)) (plan-met (either won) J pr)
-              ∙ sym (choose-last (plan_by f) p q L (done_of q word) (here_of q word) J (best_plan f kept) (omega (arith, c.here.gap)));
+        pub meet-asks : Comparable f counted word cost best
+        meet-asks = record {
+          framed = c.tabled.framed;
+          own = reads.1;
+          other = rw C.best c.held.word;
+          known = (cost_by ways m X, c.tabled.small X full, cost-here);
+          before = (cost_by ways m (filling_of kept.best), c.tabled.small (filling_of kept.best) c.held.word.full, c.held.cost);
         }
+
+        few-left : m - length (concat X) ≡ size left
+        few-left =
+            let e : length (concat X) ≡ length (concat (done_of q word)) + length (here_of q word) = simp (concat-append, append-nil, length-append) in
+            omega (arith, standing-size m q L (done_of q word) (here_of q word) c.here.at.standing)
+
+        placed-here : placed (plan_by f X) + size left ≡ placed_count f
+        placed-here = omega (arith, framed-placed f c.tabled.framed X full, few-left)
+
+        pub meet_left : size left ≤ placed_count f
+        meet_left = omega (arith, placed-here)
+
+        placed-is : placed_with f left ≡ placed (plan_by f X)
+        placed-is = omega (arith, placed-here)
+
+        -- the word wins where its plan is better
+        wins-better : (J : Job) → Priced J ways f → wins f counted (placed_with f left) word cost best ≡ better J (plan_by f X) (best_plan f kept)
+        unfolding better
+        wins-better J pr =
+            let a = amount-is cost (cost_by ways m X) (c.tabled.small X full) cost-here ∙ sym (pr.each X full) in
+            let B : Filling = filling_of kept.best in
+            let b = amount-is best (cost_by ways m B) (c.tabled.small B c.held.word.full) c.held.cost ∙ sym (pr.each B c.held.word.full) in
+            prefers-same (amount cost) (placed_with f left) (form_of f word) (amount best) counted.most (form_of f counted.best)
+            a placed-is (ap₂ (λ (i : ℕ) (x : Filling). encode i (plan_by f x)) (sym pr.total) reads.0)
+            b (C.most ∙ c.held.placed) (ap₂ (λ (i : ℕ) (x : ℕ). encode i (plan_by f (filling_of x))) (sym pr.total) C.best)
+
+        module _ (k : Kept) (found : Float) (M : Met f left word cost best counted k found) where
+          abbrev won : Bool
+          won = wins f counted (placed_with f left) word cost best
+
+          held-met : (won ≡ true) ⊎ (won ≡ false) → Held ways f k found
+          held-met (inl e) =
+              let t = M.taken e in
+              record {
+                word = rw t.0 reads.1;
+                cost = t.2 ∙ cost-here ∙ ap (λ (x : Filling). whole (cost_by ways m x)) (sym (ap filling_of t.0 ∙ reads.0));
+                placed = t.1 ∙ placed-is ∙ ap (λ (x : Filling). placed (plan_by f x)) (sym (ap filling_of t.0 ∙ reads.0));
+              }
+          held-met (inr e) =
+              let t = M.stays e in
+              record {
+                word = rw t.0 held-counted.word;
+                cost = t.2 ∙ held-counted.cost ∙ ap (λ (x : ℕ). whole (cost_by ways m (filling_of x))) (sym t.0);
+                placed = t.1 ∙ held-counted.placed ∙ ap (λ (x : ℕ). placed (plan_by f (filling_of x))) (sym t.0);
+              }
+
+          plan-met : (won ≡ true) ⊎ (won ≡ false) → (J : Job) → Priced J ways f
+              → best_plan f k ≡ cond (better J (plan_by f X) (best_plan f kept)) (plan_by f X) (best_plan f kept)
+          plan-met (inl e) J pr = rw (← wins-better J pr, e) (ap (λ (x : ℕ). plan_by f (filling_of x)) (M.taken e).0 ∙ ap (plan_by f) reads.0)
+          plan-met (inr e) J pr = rw (← wins-better J pr, e) (ap (λ (x : ℕ). plan_by f (filling_of x)) ((M.stays e).0 ∙ C.best))
+
+          either : (b : Bool) → (b ≡ true) ⊎ (b ≡ false)
+          either true = inl refl
+          either false = inr refl
+
+          pub opened-last : Opened ways f q left word kept k found
+          unfolding trail_from
+          opened-last = record {
+            held = held-met (either won);
+            each = λ i j.
+                omega (
+                  arith,
+                  ap (λ (l : List ℕ). get_or l i 0) M.counts,
+                  calls-at i,
+                  call_count-step i q (size left),
+                  call_count-before i (suc q) (size left) (omega arith),
+                );
+            noted =
+                ap (λ (x : ℕ). trail_from x (map word_of (met_on f q left word left))) (M.noted ∙ ap₂ trail_with C.trail c.here.at.says)
+                ∙ sym (ap (λ l. trail_from kept.trail (map word_of l)) (from_last p q L (done_of q word) (here_of q word) (omega (arith, c.here.gap))));
+            chosen = λ J pr.
+                ap (λ (B : Plan). choose J B (plans_on f q left word left)) (plan-met (either won) J pr)
+                ∙ sym (choose-last (plan_by f) p q L (done_of q word) (here_of q word) J (best_plan f kept) (omega (arith, c.here.gap)));
+          }
 
   -- ---- the loop
 
-  module _ (k₀ : List ℕ) (found₀ : Float) (o : Opened ways f q left word kept k₀ found₀) where
+  module _ (k₀ : Kept) (found₀ : Float) (o : Opened ways f q left word kept k₀ found₀) where
     pub looping-start : Looping ways f q left word k₀ k₀ found₀ left
     looping-start = record { held = o.held; within = λ t. omega arith; each = λ r i. refl; noted = refl; chosen = λ J pr. refl }
 
-  module _ (k₀ : List ℕ) (found₀ : Float) (o : Opened ways f q left word kept k₀ found₀) (k : List ℕ) (found : Float) (next : ℕ)
+  module _ (k₀ : Kept) (found₀ : Float) (o : Opened ways f q left word kept k₀ found₀) (k : Kept) (found : Float) (next : ℕ)
       (l : Looping ways f q left word k₀ k found next) where
     pub looping-end : next ≡ 0 → Walked ways f kept q left word k found
     unfolding trail_from
@@ -294,7 +275,7 @@ module _ (ways : List Float) (f kept : List ℕ) (q left word : ℕ) (len others
           let y : calls_in k i + 0 * turn i q left ≡ calls_in k₀ i + size left * turn i q left = rw z at (l.each i j) in
           omega (arith, o.each i j);
       noted =
-          sym (ap (λ x. trail_from (trail k) (map word_of x))
+          sym (ap (λ x. trail_from k.trail (map word_of x))
           (ap (fillings_at p q L (done_of q word) (here_of q word)) (ap stops_of e ∙ stops-none) ∙ at_none p q L (done_of q word) (here_of q word)))
           ∙ l.noted
           ∙ o.noted;
@@ -335,15 +316,15 @@ module _ (ways : List Float) (f kept : List ℕ) (q left word : ℕ) (len others
         room = λ r i. rw fewer-size (omega (arith, c.room r i, o.each r i, l.each r i, turn-sum r));
       }
 
-      pub looping-on : (k' : List ℕ) (found' : Float) → Walked ways f k q fewer (word * 16 + s) k' found' → Looping ways f q left word k₀ k' found' rest
+      pub looping-on : (k' : Kept) (found' : Float) → Walked ways f k q fewer (word * 16 + s) k' found' → Looping ways f q left word k₀ k' found' rest
       looping-on k' found' d = record {
         held = d.held;
         within = λ t. omega (arith, l.within t, taken-count next s rest in-next er t);
         each = λ r i. omega (arith, rw fewer-size at (d.counted r i), l.each r i, turn-sum r);
         noted =
-            ap (λ (w : ℕ). trail_from w (map word_of (met_on f q left word rest))) (d.noted ∙ ap (λ x. trail_from (trail k) (map word_of x)) met-stop)
-            ∙ sym (trail-append (trail k) (map word_of here-stop) (map word_of (met_on f q left word rest)))
-            ∙ ap (trail_from (trail k)) (sym (ap (map word_of) turned ∙ map-append word_of here-stop (met_on f q left word rest)))
+            ap (λ (w : ℕ). trail_from w (map word_of (met_on f q left word rest))) (d.noted ∙ ap (λ x. trail_from k.trail (map word_of x)) met-stop)
+            ∙ sym (trail-append k.trail (map word_of here-stop) (map word_of (met_on f q left word rest)))
+            ∙ ap (trail_from k.trail) (sym (ap (map word_of) turned ∙ map-append word_of here-stop (met_on f q left word rest)))
             ∙ l.noted;
         chosen = λ J pr.
             ap (λ (B : Plan). choose J B (plans_on f q left word rest)) (d.chosen J pr ∙ ap (choose J (best_plan f k)) plans-met)

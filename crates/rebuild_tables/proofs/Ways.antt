@@ -4,7 +4,6 @@ use native.Mathlib.Nat.{add-zero, add-suc, suc-add}
 use native.Mathlib.Omega.{arith}
 use mathlib.Core.Path.{◌≡◌, refl, ap, ◌∙◌}
 use mathlib.Core.List.{List, [], ◌∷◌, ◌++◌}
-use lib.Ieee.{Float}
 use lib.ListN.{length, length-append}
 use Rattle.model.specs.Lists.{concat}
 use Rattle.model.specs.Cost.{price, missed_cost}
@@ -12,9 +11,11 @@ use Rattle.model.proofs.Lists.{concat-append}
 use Rattle.rebuild_fillings.specs.Walk.{Filling, empties, Standing}
 use Rattle.rebuild_fillings.specs.Rows.{last_from}
 use Rattle.rebuild_fillings.proofs.Places.{standing-size}
-use Rattle.rebuild_tables.specs.Ways.{way_at, own_at, prices_at, base_at, way_by, gone_by, route_by, driven_by, cost_by}
+use Rattle.rebuild_ways.specs.declared.Ways.{Ways}
+use Rattle.rebuild_ways.specs.Ways.{way_at, own_at, prices_at, base_at}
+use Rattle.rebuild_tables.specs.Ways.{way_by, gone_by, route_by, driven_by, cost_by}
 
-module _ (ways : List Float) where
+module _ (ways : Ways) where
   -- one stop further
   pub gone-more : (r : ℕ) (x : List ℕ) (s : ℕ) → gone_by ways r (x ++ s ∷ []) ≡ gone_by ways r x + way_at ways (last_from r x) s
   unfolding gone_by

@@ -20,8 +20,11 @@ use Rattle.rebuild_fillings.proofs.Places.{standing-place, standing-stop}
 use Rattle.rebuild_fillings.proofs.Rows.{word-last}
 use Rattle.rebuild_fillings.proofs.Reading.{reached-next, reached-stop, next-done, next_here, stop-done, stop-here}
 use Rattle.rebuild_fillings.proofs.Full.{padded-full}
+use Rattle.rebuild_tables.specs.declared.Frame.{Frame}
 use Rattle.rebuild_tables.specs.Frame.{gap_count, drained_count}
-use Rattle.rebuild_tables.specs.Ways.{way_at, own_at, vacant_at, prices_at, gone_by, route_by, driven_by, cost_by}
+use Rattle.rebuild_ways.specs.declared.Ways.{Ways}
+use Rattle.rebuild_ways.specs.Ways.{way_at, own_at, vacant_at, prices_at}
+use Rattle.rebuild_tables.specs.Ways.{gone_by, route_by, driven_by, cost_by}
 use Rattle.rebuild_tables.specs.Walks.{FullIn, Tabled, later, elsewhere, Here}
 use Rattle.rebuild_tables.proofs.Ways.{gone-more, route-last, driven-append, driven-first, driven-none, cost-padded}
 
@@ -30,7 +33,7 @@ behind : (done : Filling) (x : List ℕ) (ys : Filling) → get_or (done ++ x �
 behind [] x ys = refl
 behind (z ∷ done) x ys = behind done x ys
 
-module _ (ways : List Float) (f : List ℕ) (T : Tabled ways f) (q left word : ℕ) (len others : Float) (h : Here ways f q left word len others) where
+module _ (ways : Ways) (f : Frame) (T : Tabled ways f) (q left word : ℕ) (len others : Float) (h : Here ways f q left word len others) where
   abbrev m : ℕ
   m = drained_count f
 

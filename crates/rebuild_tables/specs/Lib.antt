@@ -1,6 +1,7 @@
--- The two tables that the walk over the arrangements reads: a frame and a table of ways.
+-- The frame and the table of ways that the walk over the arrangements reads, and what it keeps.
 pub mod Frame
 pub mod Ways
+pub mod Kept
 pub mod Table
 pub mod Meeting
 pub mod Walks

@@ -1,27 +1,13 @@
 -- How the arrangement of a word is compared with the best so far.
-use Rattle.std.specs.Prelude.{◌≡◌, Bool, true, false, ◌&&◌, ◌||◌, ℕ, ◌+◌, ◌-◌, ◌%◌, ◌^◌, ◌<◌, List, [], ◌∷◌, eqb, ltb, Float, length, get_or}
+use Rattle.std.specs.Prelude.{◌≡◌, Bool, true, false, ◌&&◌, ◌||◌, ℕ, ◌+◌, ◌-◌, ◌%◌, ◌^◌, List, [], ◌∷◌, eqb, ltb, Float, length}
 use Rattle.model.specs.Lists.{lower}
 use Rattle.model.specs.StopSet.{stops_of}
 use Rattle.model.specs.Whole.{amount, IsWhole}
+use Rattle.rebuild_tables.specs.declared.Kept.{Kept}
+use Rattle.rebuild_tables.specs.declared.Frame.{Frame}
 use Rattle.rebuild_tables.specs.Frame.{placed_count, form_of, Framed, Placeable}
 
--- ---- what a walk keeps
-
--- the word of the best arrangement
-abbrev pub best_word : List ℕ → ℕ
-best_word kept = get_or kept 0 0
-
--- the stops that this places
-abbrev pub most_placed : List ℕ → ℕ
-most_placed kept = get_or kept 1 0
-
--- how often the walk was called in gap r, of at most three
-abbrev pub calls_in : List ℕ → ℕ → ℕ
-calls_in kept r = get_or kept (2 + r) 0
-
--- the trail of the words that it met: one number, which all of them and their order make
-abbrev pub trail : List ℕ → ℕ
-trail kept = get_or kept 5 0
+-- ---- the trail: one number, which all words that were met and their order make
 
 -- a sum modulo 2 ^ 64
 abbrev pub wrapped : ℕ → ℕ → ℕ
@@ -48,28 +34,26 @@ abbrev pub prefers : ℕ → ℕ → List ℕ → ℕ → ℕ → List ℕ → B
 prefers a p x b q y = ltb a b || (eqb a b && prefers_tie p x q y)
 
 -- whether the arrangement of a word takes the best one's place
-abbrev pub wins : List ℕ → List ℕ → ℕ → ℕ → Float → Float → Bool
-wins f kept placed word cost best = prefers (amount cost) placed (form_of f word) (amount best) (most_placed kept) (form_of f (best_word kept))
+abbrev pub wins : Frame → Kept → ℕ → ℕ → Float → Float → Bool
+wins f kept placed word cost best = prefers (amount cost) placed (form_of f word) (amount best) kept.most (form_of f kept.best)
 
 -- what is asked to compare the arrangement of a word with the best so far
-pub record Comparable (f kept : List ℕ) (word : ℕ) (cost best : Float) : Type 0 where
-  pub long : length kept ≡ 6
+pub record Comparable (f : Frame) (kept : Kept) (word : ℕ) (cost best : Float) : Type 0 where
   pub framed : Framed f
   pub own : Placeable f word
-  pub other : Placeable f (best_word kept)
+  pub other : Placeable f kept.best
   pub known : IsWhole cost
   pub before : IsWhole best
 
 -- the stops that are on a route where those of a set are not
-abbrev pub placed_with : List ℕ → ℕ → ℕ
+abbrev pub placed_with : Frame → ℕ → ℕ
 placed_with f left = placed_count f - length (stops_of left)
 
 -- The arrangement of a word, with the stops of a set left, was met: it is noted in the trail, and it is the best where it wins.
-pub record Met (f : List ℕ) (left word : ℕ) (cost best : Float) (before after : List ℕ) (r : Float) : Type 0 where
-  pub long : length after ≡ 6
-  pub noted : trail after ≡ trail_with (trail before) word
-  pub counts : (i : ℕ) → i < 3 → calls_in after i ≡ calls_in before i
+pub record Met (f : Frame) (left word : ℕ) (cost best : Float) (before after : Kept) (r : Float) : Type 0 where
+  pub noted : after.trail ≡ trail_with before.trail word
+  pub counts : after.calls ≡ before.calls
   pub taken : wins f before (placed_with f left) word cost best ≡ true
-      → (best_word after ≡ word) × (most_placed after ≡ placed_with f left) × (r ≡ cost)
+      → (after.best ≡ word) × (after.most ≡ placed_with f left) × (r ≡ cost)
   pub stays : wins f before (placed_with f left) word cost best ≡ false
-      → (best_word after ≡ best_word before) × (most_placed after ≡ most_placed before) × (r ≡ best)
+      → (after.best ≡ before.best) × (after.most ≡ before.most) × (r ≡ best)

@@ -1,2 +1,56 @@
-// The tables that the walk over the arrangements reads: definitions and laws only.
+// What the walk over the arrangements keeps, the frame that it reads, and definitions and laws of its tables.
 #![tactic(auto)]
+
+ghost use Rattle.std.specs.Prelude.{◌≡◌, ◌≤◌, ◌<◌, length};
+
+use model::Region;
+
+// What a walk keeps: the word of the best arrangement, the stops that this places, how often it was called in each gap, and the trail of the
+// words that it met. So the calls in the first gap are the fillings of it that were begun, and those in the last gap the arrangements
+// completed; and the trail is a number that tells in which order these were met.
+#[derive(Drop)]
+pub struct Kept {
+    pub best: u64,
+    pub most: u64,
+    pub calls: [u64; 3],
+    pub trail: u64,
+    pub ghost three: { length calls ≡ 3 },
+}
+
+impl Kept {
+    ghost use Rattle.rebuild_tables.specs.Kept.{calls_in, Fresh, Counted};
+
+    // What is kept before a walk: the word of the plan itself, and the stops that this places.
+    pub fn new(best: u64, most: u64) -> Self
+        ensures { Fresh best most result }
+    {
+        Kept {
+            best,
+            most,
+            calls: [0; 3],
+            trail: 0,
+        }
+    }
+
+    // Counts a call in gap q.
+    pub fn count_call(&mut self, q: usize)
+        requires { (q < 3) × (calls_in self.old q ≤ 390453) }
+        ensures { Counted q self.old self.new }
+    {
+        self.calls[q] += 1;
+    }
+}
+
+// What is needed to write the plan of a word: how many gaps, routes and stops there are, how many stops are placed and how many drained, the
+// regions, the drained stops, of which the first is listed at place 1, and the plan.
+#[derive(Drop)]
+pub struct Frame {
+    pub gaps: usize,
+    pub routes: usize,
+    pub stops: usize,
+    pub placed: u32,
+    pub drained: u32,
+    pub regions: [Region; 3],
+    pub listed: [u32; 8],
+    pub plan: [u32; 80],
+}

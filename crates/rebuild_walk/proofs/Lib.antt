@@ -1,2 +1,1 @@
-pub mod Meeting
 pub mod Counted

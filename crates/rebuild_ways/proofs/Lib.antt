@@ -1,3 +1,4 @@
 -- Laws on tables of ways: what is read of one, and how one is filled.
 pub mod Laws
-pub mod Fills
+pub mod Filling
+pub mod Gaps

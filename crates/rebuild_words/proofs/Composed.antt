@@ -1,4 +1,5 @@
 -- A plan that is written route by route.
+use Rattle.std.specs.Prelude.{Some, None, position}
 use Prim.Native.Nat.{ℕ, suc, ◌+◌, ◌-◌, ◌≤◌, ◌<◌}
 use native.Mathlib.Numerals.{add-one}
 use native.Mathlib.Omega.{arith}
@@ -6,17 +7,17 @@ use mathlib.Core.Path.{◌≡◌, refl, sym, ap, ◌∙◌}
 use mathlib.Core.List.{List, [], ◌∷◌, ◌++◌, map, append_assoc, append-nil}
 use lib.ListN.{length, get_or, take, drop, set, replicate, length-append, length-set, length-take, length-drop, take-append-drop}
 use lib.Seq.{take-suc, take_all, take-take, take-append-le, take-suc-set, take-set-lt, drop-append-le, drop-set-lt, drop-length, length-take-le}
-use Rattle.model.specs.Lists.{concat, sum, part, position}
+use Rattle.model.specs.Lists.{concat, sum, part}
 use Rattle.model.specs.Plan.{Plan, Route, route_of, placed, unused, encode, decode}
-use Rattle.model.proofs.Lists.{map-append, concat-append, sum_more, position-le}
+use Rattle.model.proofs.Lists.{map-append, concat-append, sum_more}
 use Rattle.model.proofs.PlanForm.{route-part, route-end, lent_length}
-use Rattle.model.specs.Region.{vehicles_of, region_at}
+use Rattle.model.specs.declared.Region.{Region}
 use Rattle.pasting.specs.Put.{put}
 use Rattle.pasting.proofs.Put.{take_put, length-put, lent-rest}
-use Rattle.rebuild_words.specs.Words.{Word, plan_of}
-use Rattle.rebuild_words.specs.Gaps.{regions_of, Gapped, Within, refilled}
+use Rattle.rebuild_words.specs.Words.{Word, in_gap, plan_of}
+use Rattle.rebuild_words.specs.Gaps.{Gapped, Within, refilled}
 use Rattle.rebuild_words.proofs.Plans.{length-plan_of}
-use Rattle.rebuild_words.proofs.Gaps.{length-vehicles, own-within, route-refilled}
+use Rattle.rebuild_words.proofs.Gaps.{is_of, own-there, own-within, route-refilled, route-stays}
 
 -- the first i routes of X are written, and end at `at`
 pub record Written (v n : ℕ) (X : Plan) (i at : ℕ) (to : List ℕ) : Type 0 where
@@ -115,29 +116,30 @@ module _ (v n : ℕ) (X : Plan) where
 
 -- ---- the plan of a word
 
-module _ (v n : ℕ) (xs regions : List ℕ) (w : Word) (G : Gapped v n xs regions) where
+module _ (v n : ℕ) (xs : List ℕ) (regions : List Region) (d : Region) (w : Word) (G : Gapped v n xs regions) where
   abbrev pub composed : Plan
-  composed = plan_of (decode v xs) (regions_of regions) w
+  composed = plan_of (decode v xs) regions w
 
   pub composed-wide : length composed ≡ v
-  composed-wide =
-      length-plan_of (decode v xs) (regions_of regions) (region_at regions 0) G.stretches w ∙ lent_length v n xs G.plan
+  composed-wide = length-plan_of (decode v xs) regions d G.stretches w ∙ lent_length v n xs G.plan
 
-  -- what a turn of the loop reads: the route of vehicle i, and the region that it has
-  pub record Read (start i r : ℕ) : Type 0 where
+  -- what a turn of the loop reads: the route of vehicle i, and what it becomes where it has a region and where it has none
+  pub record Read (start i : ℕ) : Type 0 where
     pub ending : start + get_or xs i 0 ≤ v + n
     pub next : start + get_or xs i 0 ≡ v + sum (take (i + 1) xs)
-    pub few : r ≤ 3
-    pub within : Within regions r (part start (start + get_or xs i 0) xs)
-    pub route : refilled regions w r (part start (start + get_or xs i 0) xs) ≡ route_of composed i
+    pub within : (r : ℕ) → position (is_of i) regions ≡ Some r → (r < length regions) × Within (get_or regions r d) (part start (start + get_or xs i 0) xs)
+    pub refills : (r : ℕ) → position (is_of i) regions ≡ Some r
+        → refilled (get_or regions r d) (in_gap r w) (part start (start + get_or xs i 0) xs) ≡ route_of composed i
+    pub stays : position (is_of i) regions ≡ None → part start (start + get_or xs i 0) xs ≡ route_of composed i
 
-  pub reads : (start i r : ℕ) → start ≡ v + sum (take i xs) → i < v → r ≡ position i (vehicles_of (regions_of regions)) → Read start i r
-  reads start i r es h er =
-      let e : part start (start + get_or xs i 0) xs ≡ route_of (decode v xs) i = sym (route-part v xs (omega (arith, G.plan.long)) i start h es) in
+  pub reads : (start i : ℕ) → start ≡ v + sum (take i xs) → i < v → Read start i
+  reads start i es h =
+      let P = decode v xs in
+      let e : part start (start + get_or xs i 0) xs ≡ route_of P i = sym (route-part v xs (omega (arith, G.plan.long)) i start h es) in
       record {
         ending = omega (arith, route-end v n xs G.plan.long G.plan.fits i h);
         next = omega (arith, sum_more xs i, ap (λ k. sum (take k xs)) (add-one i));
-        few = omega (arith, position-le i (vehicles_of (regions_of regions)), length-vehicles regions, G.few);
-        within = rw (e, er) (own-within (decode v xs) regions G.stretches w G.threes i);
-        route = rw (e, er) (sym (route-refilled (decode v xs) regions G.stretches w G.threes i));
+        within = λ r f. (own-there P regions d G.stretches w i r f, rw e (own-within P regions d G.stretches w i r f));
+        refills = λ r f. rw e (sym (route-refilled P regions d G.stretches w i r f));
+        stays = λ f. e ∙ sym (route-stays P regions d G.stretches w i f);
       }

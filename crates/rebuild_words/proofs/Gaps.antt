@@ -1,102 +1,72 @@
--- Regions as they are lent, and the routes of the plan that a word stands for.
-use Prim.Native.Nat.{ℕ, zero, suc, ◌+◌, ◌*◌, ◌/◌, ◌%◌, ◌≤◌, ◌<◌}
-use native.Mathlib.Nat.{le_of_suc-le-suc, add-zero}
+-- The regions of vehicles, and the routes of the plan that a word stands for.
+use Prim.Native.Nat.{ℕ, suc, ◌+◌, ◌/◌, ◌%◌, ◌≤◌, ◌<◌}
+use native.Mathlib.Nat.{add-zero}
 use native.Mathlib.Numerals.{add-one}
-use native.Mathlib.Decide.{dec_lt}
 use native.Mathlib.Omega.{arith}
 use mathlib.Core.Path.{◌≡◌, refl, sym, ap, ap₂, ◌∙◌, subst}
+use mathlib.Core.Bool.{Bool, false, true≢false}
+use mathlib.Core.Logic.{inl, inr}
 use mathlib.Core.List.{List, [], ◌∷◌, ◌++◌, append_assoc, append-nil}
-use lib.ListN.{length, get_or, take, drop, set, length-map, length-append, length-set, take-append-drop, get_or-map}
+use lib.Dec.{eqb}
+use lib.ListN.{length, get_or, take, drop, set, length-append, length-set, take-append-drop}
 use lib.Seq.{drop-cons, set_at, take-suc, take_all}
-use borrow.Author.Tests.{lt-ltb, le-ltb, eq-eqb, ne_eqb}
-use Rattle.model.specs.Lists.{In, position}
+use borrow.Author.Tests.{eq-eqb, ne_eqb, eqb-true}
+use Rattle.std.specs.Prelude.{Some, None, position}
+use Rattle.std.specs.List.{position_or_len}
+use Rattle.std.proofs.lemmas.Grind.{common_steps}
+use Rattle.std.proofs.lemmas.List.Quantifiers.{position-Some}
+use Rattle.std.proofs.lemmas.List.Sums.{fails_before_first}
+use Rattle.model.specs.Lists.{In}
 use Rattle.model.specs.Plan.{Plan, Route, route_of}
 use Rattle.model.specs.declared.Region.{Region}
-use Rattle.model.specs.Region.{vehicles_of, Stretch, Stretches, region_at}
-use Rattle.model.proofs.Lists.{position-lt, position-member, get_or-position, count-member}
-use Rattle.model.proofs.Members.{in_count}
-use Rattle.model.proofs.Arrangements.{spliced}
+use Rattle.model.specs.Region.{vehicles_of, Stretch, Stretches}
 use Rattle.pasting.specs.Put.{put}
 use Rattle.pasting.proofs.Put.{put-head, put-put}
 use Rattle.rebuild_words.specs.Words.{Word, in_gap, plan_of}
-use Rattle.rebuild_words.specs.Gaps.{regions_of, refilled, Within, Pasted}
+use Rattle.rebuild_words.specs.Gaps.{refilled, Within, Pasted}
 use Rattle.rebuild_words.proofs.Plans.{in-get_or, in-append, route-plan_of, other-plan_of}
-
--- ---- the numbers of a region
-
-skip : (a b c : ℕ) (xs : List ℕ) (i j : ℕ) → j ≡ suc (suc (suc i)) → get_or (a ∷ b ∷ c ∷ xs) j 0 ≡ get_or xs i 0
-skip a b c xs i j e = rw e
-
-pub region-at : (xs : List ℕ) (r : ℕ) (d : Region) → r < length (regions_of xs) → get_or (regions_of xs) r d ≡ region_at xs r
-region-at [] r d h = absurd (omega arith)
-region-at (a ∷ []) r d h = absurd (omega arith)
-region-at (a ∷ b ∷ []) r d h = absurd (omega arith)
-region-at (a ∷ b ∷ c ∷ xs) zero d h = refl
-region-at (a ∷ b ∷ c ∷ xs) (suc r) d h =
-    region-at xs r d (le_of_suc-le-suc h)
-    ∙ rw (
-      skip a b c xs (3 * r) (3 * suc r) (omega arith),
-      skip a b c xs (3 * r + 1) (3 * suc r + 1) (omega arith),
-      skip a b c xs (3 * r + 2) (3 * suc r + 2) (omega arith),
-    )
-
-none : Region
-none = record { vehicle = 0; from = 0; to = 0 }
-
-module _ (xs : List ℕ) where
-  pub length-vehicles : length (vehicles_of (regions_of xs)) ≡ length (regions_of xs)
-  length-vehicles = length-map (regions_of xs) (λ (g : Region). g.vehicle)
-
-  pub vehicle-at : (r : ℕ) → r < length (regions_of xs) → get_or (vehicles_of (regions_of xs)) r 0 ≡ (region_at xs r).vehicle
-  unfolding none
-  vehicle-at r h =
-      get_or-map (λ (g : Region). g.vehicle) (regions_of xs) r none
-      ∙ ap (λ (g : Region). g.vehicle) (region-at xs r none h)
 
 -- ---- the routes of the plan of a word
 
+-- whether a region is of this vehicle
+abbrev pub is_of : ℕ → Region → Bool
+is_of k g = eqb g.vehicle k
+
 -- a vehicle with no region stands nowhere among the regions' vehicles
-unnamed : (k : ℕ) (ks : List ℕ) → length ks ≤ position k ks → In k ks → ⊥
-unnamed k ks h i = let p = position-lt k ks (count-member k ks (in_count k ks i)) in omega arith
+unnamed : (k : ℕ) (gs : List Region) (d : Region) → ((i : ℕ) → i < length gs → is_of k (get_or gs i d) ≡ false) → In k (vehicles_of gs) → ⊥
+unnamed k [] d f h = absurd h
+unnamed k (g ∷ gs) d f (inl e) = true≢false (sym (eq-eqb g.vehicle k (sym e)) ∙ f 0 (omega arith))
+unnamed k (g ∷ gs) d f (inr h) = unnamed k gs d (λ i lt. f (suc i) (omega arith)) h
 
-module _ (P : Plan) (xs : List ℕ) (st : Stretches P (regions_of xs)) (w : Word) (threes : length xs ≡ 3 * length (regions_of xs)) where
+module _ (P : Plan) (gs : List Region) (d : Region) (st : Stretches P gs) (w : Word) where
   -- region r is a stretch
-  pub stretch-at : (r : ℕ) → r < length (regions_of xs) → Stretch P (region_at xs r)
-  stretch-at r h = subst (Stretch P) (region-at xs r none h) (st.each (get_or (regions_of xs) r none) (in-get_or (regions_of xs) r none h))
-
-  -- and this is its route
-  pub route-of-region : (r k : ℕ) → r < length (regions_of xs) → (region_at xs r).vehicle ≡ k
-      → route_of (plan_of P (regions_of xs) w) k ≡ spliced (region_at xs r) (in_gap r w) (route_of P k)
-  route-of-region r k h e =
-      let a = subst (λ (g : Region). route_of (plan_of P (regions_of xs) w) g.vehicle ≡ spliced g (in_gap r w) (route_of P g.vehicle))
-      (region-at xs r none h) (route-plan_of P (regions_of xs) none st w r h)
-      in
-      subst (λ (v : ℕ). route_of (plan_of P (regions_of xs) w) v ≡ spliced (region_at xs r) (in_gap r w) (route_of P v)) e a
+  pub stretch-at : (r : ℕ) → r < length gs → Stretch P (get_or gs r d)
+  stretch-at r h = st.each (get_or gs r d) (in-get_or gs r d h)
 
   module _ (k : ℕ) where
-    -- the region that the vehicle has
-    abbrev pub own : ℕ
-    own = position k (vehicles_of (regions_of xs))
+    -- the region that a vehicle has
+    module _ (r : ℕ) (e : position (is_of k) gs ≡ Some r) where
+      pub own-there : r < length gs
+      own-there = (position-Some (is_of k) gs r d e).0
 
-    own-vehicle : own < length (regions_of xs) → (region_at xs own).vehicle ≡ k
-    own-vehicle h =
-        let h' : own < length (vehicles_of (regions_of xs)) = rw length-vehicles h in
-        sym (vehicle-at xs own h) ∙ get_or-position k (vehicles_of (regions_of xs)) (position-member k (vehicles_of (regions_of xs)) h')
+      own-vehicle : (get_or gs r d).vehicle ≡ k
+      own-vehicle = eqb-true (get_or gs r d).vehicle k (position-Some (is_of k) gs r d e).1
 
-    pub route-refilled : route_of (plan_of P (regions_of xs) w) k ≡ refilled xs w own (route_of P k)
-    route-refilled = go (dec_lt own (length (regions_of xs)))
-      where
-        go : Dec (own < length (regions_of xs)) → route_of (plan_of P (regions_of xs) w) k ≡ refilled xs w own (route_of P k)
-        go (yes h) = route-of-region own k h (own-vehicle h) ∙ rw (lt-ltb (3 * own) (length xs) (omega arith))
-        go (no h) =
-            other-plan_of P (regions_of xs) none st w k (unnamed k (vehicles_of (regions_of xs)) (rw length-vehicles (omega arith)))
-            ∙ rw (le-ltb (3 * own) (length xs) (omega arith))
+      pub own-within : Within (get_or gs r d) (route_of P k)
+      own-within =
+          let s = stretch-at r own-there in
+          (s.ordered, subst (λ (v : ℕ). (get_or gs r d).to ≤ length (route_of P v)) own-vehicle s.within)
 
-    pub own-within : Within xs own (route_of P k)
-    own-within h =
-        let h' : own < length (regions_of xs) = omega arith in
-        let s = stretch-at own h' in
-        (s.ordered, subst (λ (v : ℕ). (region_at xs own).to ≤ length (route_of P v)) (own-vehicle h') s.within)
+      pub route-refilled : route_of (plan_of P gs w) k ≡ refilled (get_or gs r d) (in_gap r w) (route_of P k)
+      route-refilled =
+          subst (λ (v : ℕ). route_of (plan_of P gs w) v ≡ refilled (get_or gs r d) (in_gap r w) (route_of P v)) own-vehicle
+          (route-plan_of P gs d st w r own-there)
+
+    -- or it has none
+    pub route-stays : position (is_of k) gs ≡ None → route_of (plan_of P gs w) k ≡ route_of P k
+    route-stays e =
+        let past : length gs ≤ position_or_len (is_of k) gs = grind (arith, common_steps) in
+        other-plan_of P gs d st w k (unnamed k gs d (λ i lt. fails_before_first (is_of k) gs i d (omega arith)))
 
 -- ---- what is written of a gap
 
@@ -172,42 +142,25 @@ module _ (d : List ℕ) (at : ℕ) (w : Word) (q : ℕ) where
 
 -- ---- what is written of a route
 
-module _ (d : List ℕ) (at : ℕ) (regions : List ℕ) (w : Word) (r : ℕ) (route : Route) where
-  refilled-none : length regions ≤ 3 * r → refilled regions w r route ≡ route
-  refilled-none h = rw (le-ltb (3 * r) (length regions) h)
-
-  pub route-room : length regions ≤ 3 * r → at + length (refilled regions w r route) ≤ length d → at + length route ≤ length d
-  route-room h k = rw (refilled-none h) at k
-
-  pub route-pasted : length regions ≤ 3 * r → (d₁ : List ℕ) (e : ℕ) → e ≡ at + length route → d₁ ≡ put d at route → Pasted d at (refilled regions w r route) d₁ e
-  route-pasted h d₁ e ee e₁ = rw (refilled-none h) (record { ends = ee; holds = e₁ })
-
--- with region g, which is region r
-module _ (d : List ℕ) (at : ℕ) (regions : List ℕ) (w : Word) (r : ℕ) (route : Route) (g : Region) (eg : g ≡ region_at regions r) where
+module _ (d : List ℕ) (at : ℕ) (x : List ℕ) (route : Route) (g : Region) where
   abbrev head : List ℕ
   head = take g.from route
 
   abbrev tail : List ℕ
   tail = drop g.to route
 
-  refilled-there : 3 * r < length regions → refilled regions w r route ≡ head ++ (in_gap r w ++ tail)
-  refilled-there h = rw (lt-ltb (3 * r) (length regions) h, eg)
-
   -- there is room for the three parts
-  pub parts-room : 3 * r < length regions → at + length (refilled regions w r route) ≤ length d
-      → at + length head + length (in_gap r w) + length tail ≤ length d
-  parts-room h k =
-      omega (arith, ap length (refilled-there h), length-append head (in_gap r w ++ tail), length-append (in_gap r w) tail)
+  pub parts-room : at + length (refilled g x route) ≤ length d → at + length head + length x + length tail ≤ length d
+  parts-room h = omega (arith, length-append head (x ++ tail), length-append x tail)
 
   -- the three parts are pasted one after another
-  pub parts-pasted : 3 * r < length regions → at ≤ length d → (d₁ d₂ d₃ t : List ℕ) (a b e : ℕ) → a ≡ at + length head → d₁ ≡ put d at head
-      → Pasted d₁ a (in_gap r w) d₂ b → t ≡ tail → e ≡ b + length t → d₃ ≡ put d₂ b t → Pasted d at (refilled regions w r route) d₃ e
-  parts-pasted h k d₁ d₂ d₃ t a b e ea e₁ p et ee e₃ =
-      let x : List ℕ = head ++ in_gap r w in
-      let two : d₂ ≡ put d at x = p.holds ∙ rw (e₁, ea) (put-put d head (in_gap r w) at k) in
-      let eb : b ≡ at + length x = omega (arith, p.ends, length-append head (in_gap r w)) in
-      let all : x ++ tail ≡ refilled regions w r route = append_assoc head (in_gap r w) tail ∙ sym (refilled-there h) in
+  pub parts-pasted : at ≤ length d → (d₁ d₂ d₃ t : List ℕ) (a b e : ℕ) → a ≡ at + length head → d₁ ≡ put d at head
+      → Pasted d₁ a x d₂ b → t ≡ tail → e ≡ b + length t → d₃ ≡ put d₂ b t → Pasted d at (refilled g x route) d₃ e
+  parts-pasted k d₁ d₂ d₃ t a b e ea e₁ p et ee e₃ =
+      let two : d₂ ≡ put d at (head ++ x) = p.holds ∙ rw (e₁, ea) (put-put d head x at k) in
+      let eb : b ≡ at + length (head ++ x) = omega (arith, p.ends, length-append head x) in
+      let all : (head ++ x) ++ tail ≡ refilled g x route = append_assoc head x tail in
       record {
-        ends = omega (arith, ap length et, ap length all, length-append x tail);
-        holds = e₃ ∙ rw (two, eb, et) (put-put d x tail at k) ∙ ap (put d at) all;
+        ends = omega (arith, ap length et, ap length all, length-append (head ++ x) tail);
+        holds = e₃ ∙ rw (two, eb, et) (put-put d (head ++ x) tail at k) ∙ ap (put d at) all;
       }

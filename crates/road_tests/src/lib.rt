@@ -7,13 +7,11 @@ ghost use Rattle.distance.specs.Table.{Square};
 
 use model::Road;
 
+#[tactic(auto, using(std::proofs::lemmas::Bool::Decides::nat_tests), unfolding(model::specs::Roads::bad_road))]
 pub fn bad_road(locations: u32, road: Road) -> bool
     ensures { result ≡ bad_road locations road }
 {
-    if locations <= road.from {
-        return true;
-    }
-    locations <= road.to
+    locations <= road.from || locations <= road.to
 }
 
 // Of a road of the table. The sum is made in 64 bits, as it may be larger than any number of 32.

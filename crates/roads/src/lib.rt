@@ -22,13 +22,7 @@ struct Tally {
 fn one_use(road: Road, from: u32, to: u32) -> u32
     ensures { (result ≡ one_use road from to) × (result ≤ 1) }
 {
-    if from != road.from {
-        return 0;
-    }
-    if to != road.to {
-        return 0;
-    }
-    1
+    u32::from(from == road.from && to == road.to)
 }
 
 // The tally of a route from one location through its stops to another. A leg is a use by its locations, so the walk reads the job's own
@@ -48,14 +42,11 @@ fn route_tally(
     let mut uses: u32 = 0;
     let mut metres: u32 = 0;
     let mut here = start;
-    let mut i = 0;
-    while i < route.len() {
-        let stop = route[i] as usize;
-        let next = stops[stop];
+    for &stop in route {
+        let next = stops[stop as usize];
         uses += one_use(road, here, next);
         metres += distance::lookup(locations, distances, here, next);
         here = next;
-        i += 1;
     }
     uses += one_use(road, here, end);
     metres += distance::lookup(locations, distances, here, end);
@@ -78,8 +69,7 @@ fn plan_tally(
     let mut uses: u32 = 0;
     let mut metres: u32 = 0;
     let mut at = v;
-    let mut k = 0;
-    while k < v {
+    for k in 0..v {
         let last = at + plan[k] as usize;
         let start = vehicles[2 * k];
         let end = vehicles[2 * k + 1];
@@ -95,7 +85,6 @@ fn plan_tally(
         uses += one.uses;
         metres += one.metres;
         at = last;
-        k += 1;
     }
     Tally { uses, metres }
 }

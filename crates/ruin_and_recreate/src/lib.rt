@@ -33,7 +33,7 @@ fn rounds(
         improving: 0,
         place: 0,
     };
-    while p.rounds < limit {
+    for _done in 0..limit {
         p = run_round::round(legs, v, n, prices, near, draws, smoothing, plan, p);
         let a = p.averages;
         if settle::settled(a, p.rounds) {

@@ -1,6 +1,6 @@
 -- A round of the code is the definition's, for every job that fits.
 use mathlib.Core.Path.{◌≡◌, refl, sym, ap, ap₂, ◌∙◌}
-use mathlib.Core.Bool.{Bool, cond}
+use mathlib.Core.Bool.{Bool, true, false, cond}
 use mathlib.Core.List.{List}
 use Prim.Native.Nat.{ℕ, suc, ◌+◌, ◌-◌, ◌*◌, ◌%◌, ◌≤◌, ◌<◌}
 use native.Mathlib.Nat.{mod-lt}
@@ -9,6 +9,7 @@ use native.Mathlib.Omega.{arith}
 use lib.Dec.{ltb}
 use lib.Ieee.{Float, lt}
 use lib.ListN.{length, take, drop}
+use Rattle.std.specs.Int.{from_bool}
 use Rattle.model.specs.declared.Prices.{Prices}
 use Rattle.model.specs.declared.Walk.{Walk}
 use Rattle.model.specs.declared.Averages.{Averages}
@@ -42,6 +43,11 @@ pub improves-one : (b : Bool) (old new : Float) (m k : ℕ) → lt new old ≡ b
     → ◌≡◌ {A = ℕ} (cond b 1 0) (cond (ltb k m) 1 0)
 improves-one b old new m k e M K p q =
     ap (λ (x : Bool). cond x 1 0) (sym e ∙ ap₂ lt q p ∙ lt-whole k m K M)
+
+-- a test as a number
+pub number_of : (b : Bool) → (from_bool b ≡ cond b 1 0) × (from_bool b ≤ 1)
+number_of true = (refl, omega arith)
+number_of false = (refl, omega arith)
 
 -- ---- the definition, in the words of the code
 

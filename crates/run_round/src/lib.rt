@@ -22,10 +22,7 @@ pub struct Progress {
 fn improves(old: f64, new: f64) -> u32
     ensures { (result ≤ 1) × ((m k : ℕ) → m ≤ exact → k ≤ exact → old ≡ whole m → new ≡ whole k → result ≡ cond (ltb k m) 1 0) }
 {
-    if new < old {
-        return 1;
-    }
-    0
+    u32::from(new < old)
 }
 
 // What a run carries on after a round that leaves a plan of that cost and drew so many picks.

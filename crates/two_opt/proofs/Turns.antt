@@ -2,11 +2,12 @@
 use mathlib.Core.Path.{◌≡◌, refl, sym, ap, ◌∙◌, subst}
 use mathlib.Core.Logic.{◌≢◌}
 use mathlib.Core.List.{List, [], ◌∷◌, ◌++◌, map}
-use Prim.Native.Nat.{ℕ, suc, ◌+◌, ◌<◌, ◌≤◌}
+use Prim.Native.Nat.{ℕ, suc, ◌+◌, ◌<◌, ◌≤◌, min}
 use native.Mathlib.Omega.{arith}
 use native.Mathlib.Numerals.{add-one}
 use lib.ListN.{length, get_or, take, drop, drop_of_length-le}
-use lib.Seq.{drop-cons, take_all}
+use lib.Seq.{drop-cons}
+use Rattle.std.proofs.lemmas.List.{take_min}
 use Rattle.model.specs.Lists.{pairs, Once}
 use Rattle.model.specs.Job.{Job}
 use Rattle.model.specs.Plan.{Plan, encode, decode, Lent}
@@ -114,6 +115,6 @@ module _ (t : List ℕ) (v n : ℕ) (p : Prices) (xs near ys : List ℕ) where
   unfolding two_opt_pass
   ten e J F x h = e J F ∙ rw h
 
-  -- where there are no more
-  pub fewer : length near ≤ 10 → Leaves near → Leaves (take 10 near)
-  fewer few e = rw (take_all 10 near few) e
+  -- of the first m, which are ten or all
+  pub first-ten : (m : ℕ) → m ≡ min (length near) 10 → Leaves (take m near) → Leaves (take 10 near)
+  first-ten m h e = let k : m ≡ min 10 (length near) = omega arith in rw (k, take_min 10 near) at e

@@ -12,6 +12,7 @@ ghost use Rattle.delivery.specs.Costs.{Ready};
 ghost use Rattle.two_opt.specs.Pairs.{pairs_of};
 
 use model::Prices;
+use two_opt_inter::Visit;
 
 // The pair s, t: no change where one of them is unplaced, else the move on their route or on their two routes, that of s first.
 pub fn pair(legs: &[u32], v: usize, n: usize, prices: Prices, plan: &mut [u32], s: u32, t: u32)
@@ -31,7 +32,15 @@ pub fn pair(legs: &[u32], v: usize, n: usize, prices: Prices, plan: &mut [u32], 
     if a == b {
         two_opt_intra::intra(legs, v, n, prices, plan, a, s, t);
     } else {
-        two_opt_inter::inter(legs, v, n, prices, plan, a, s, b, t);
+        let first = Visit {
+            vehicle: a,
+            stop: s,
+        };
+        let second = Visit {
+            vehicle: b,
+            stop: t,
+        };
+        two_opt_inter::inter(legs, v, n, prices, plan, first, second);
     }
 }
 
@@ -51,10 +60,8 @@ fn pairs_of(
     ensures lent { Lent v n plan.new }
 {
     let s = stops[i];
-    let mut j = i + 1;
-    while j < stops.len() {
+    for j in i + 1..stops.len() {
         pair(legs, v, n, prices, plan, s, stops[j]);
-        j += 1;
     }
 }
 
@@ -65,10 +72,8 @@ fn all_pairs(legs: &[u32], v: usize, n: usize, prices: Prices, plan: &mut [u32],
     ensures plan_after { (J : Job) → Fits J legs.now v n prices → plan.new ≡ encode n (two_opt_all J (decode v plan.old) (pairs stops.now)) }
     ensures lent { Lent v n plan.new }
 {
-    let mut i = 0;
-    while i < stops.len() {
+    for i in 0..stops.len() {
         pairs_of(legs, v, n, prices, plan, stops, i);
-        i += 1;
     }
 }
 
@@ -80,9 +85,6 @@ pub fn pass(legs: &[u32], v: usize, n: usize, prices: Prices, plan: &mut [u32], 
     ensures lent { Lent v n plan.new }
     ensures plan_after_2 { (J : Job) → Fits J legs.now v n prices → plan.new ≡ encode n (two_opt_all J (decode v plan.old) (pairs (take 10 near.now))) }
 {
-    if 10 < near.len() {
-        all_pairs(legs, v, n, prices, plan, &near[0..10]);
-    } else {
-        all_pairs(legs, v, n, prices, plan, near);
-    }
+    let few = near.len().min(10);
+    all_pairs(legs, v, n, prices, plan, &near[..few]);
 }

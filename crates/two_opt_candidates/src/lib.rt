@@ -10,7 +10,11 @@ ghost use Rattle.two_opt_candidates.specs.Pairs.{choice_of, least_pair};
 ghost use Rattle.two_opt_candidates.specs.Weighed.{Weighs, found, tried, joined_length, ends_price, after_exchange, after_turns, after_all, Joins, TwoCuts, TwoCutRoutes, Routes};
 
 use model::Prices;
-use two_opt_cuts::{Cut, Cuts, End, Ends};
+use two_opt_cuts::{Cut, Cuts, End};
+
+// A candidate stays a number, and is no struct of six flags, which would be no plainer: the definitions number the candidates in the
+// order in which they are tried, so the lowest number of the cheapest is kept, and each of the forty that are weighed has one value
+// to hand on in place of six. What a number says is read once, of the kept candidate: here, and where its two routes are turned.
 
 // What a candidate's number says of two rows: where they are cut, and whether each route keeps its own head and its own tail.
 #[derive(Clone, Copy)]
@@ -49,31 +53,22 @@ fn joined(legs: &[u32], head: End, tail: End) -> u32
     head.out + distance::leg(legs, head.joint, tail.joint) + tail.back
 }
 
-// What two routes cost: the one of head h and tail t on the first vehicle, and the one of head g and tail u on the second.
-fn pair_price(legs: &[u32], prices: Prices, h: Ends, t: Ends, g: Ends, u: Ends) -> f64
-    requires { Joins legs.now prices h t g u }
-    ensures { Weighs (ends_price legs.now prices h t g u) result }
+// What two routes cost: the one of the head and the tail of x on the first vehicle, and that of y on the second.
+fn pair_price(legs: &[u32], prices: Prices, x: Cut, y: Cut) -> f64
+    requires { Joins legs.now prices x.head x.tail y.head y.tail }
+    ensures { Weighs (ends_price legs.now prices x.head x.tail y.head y.tail) result }
 {
-    let x = joined(legs, h.first, t.first);
-    let y = joined(legs, g.second, u.second);
+    let x = joined(legs, x.head.first, x.tail.first);
+    let y = joined(legs, y.head.second, y.tail.second);
     delivery::price(x, prices) + delivery::price(y, prices)
 }
 
 // The best so far, or the candidate of two such routes where that is strictly cheaper.
-fn weighed(
-    legs: &[u32],
-    prices: Prices,
-    h: Ends,
-    t: Ends,
-    g: Ends,
-    u: Ends,
-    code: usize,
-    best: Best,
-) -> Best
-    requires { Joins legs.now prices h t g u × IsWhole best.price }
-    ensures { IsWhole result.price × (found result ≡ tried code (ends_price legs.now prices h t g u) (found best)) }
+fn weighed(legs: &[u32], prices: Prices, x: Cut, y: Cut, code: usize, best: Best) -> Best
+    requires { Joins legs.now prices x.head x.tail y.head y.tail × IsWhole best.price }
+    ensures { IsWhole result.price × (found result ≡ tried code (ends_price legs.now prices x.head x.tail y.head y.tail) (found best)) }
 {
-    let price = pair_price(legs, prices, h, t, g, u);
+    let price = pair_price(legs, prices, x, y);
     if whole::cheaper(price, best.price) {
         return Best { code, price };
     }
@@ -85,17 +80,16 @@ fn exchanged(legs: &[u32], prices: Prices, x: Cut, y: Cut, code: usize, best: Be
     requires { TwoCuts legs.now prices x y × (code ≤ 60) × IsWhole best.price }
     ensures { IsWhole result.price × (found result ≡ after_exchange legs.now prices x y code (found best)) }
 {
-    let tails = weighed(legs, prices, x.head, y.tail, y.head, x.tail, code + 1, best);
-    weighed(
-        legs,
-        prices,
-        y.head,
-        x.tail,
-        x.head,
-        y.tail,
-        code + 2,
-        tails,
-    )
+    let first = Cut {
+        head: x.head,
+        tail: y.tail,
+    };
+    let second = Cut {
+        head: y.head,
+        tail: x.tail,
+    };
+    let tails = weighed(legs, prices, first, second, code + 1, best);
+    weighed(legs, prices, second, first, code + 2, tails)
 }
 
 // The best so far and the sixteen candidates of two routes that are turned in one way. Those that keep or exchange both heads
@@ -109,9 +103,9 @@ fn least_of_turns(legs: &[u32], prices: Prices, x: Cuts, y: Cuts, code: usize, b
     let b = y.before;
     let c = x.after;
     let d = y.after;
-    let kept = weighed(legs, prices, a.head, a.tail, b.head, b.tail, code, best);
+    let kept = weighed(legs, prices, a, b, code, best);
     let ends = exchanged(legs, prices, a, b, code, kept);
-    let whole = weighed(legs, prices, b.head, b.tail, a.head, a.tail, code + 3, ends);
+    let whole = weighed(legs, prices, b, a, code + 3, ends);
     let one = exchanged(legs, prices, a, d, code + 4, whole);
     let two = exchanged(legs, prices, c, b, code + 8, one);
     exchanged(legs, prices, c, d, code + 12, two)
@@ -122,9 +116,7 @@ fn least_of_cuts(legs: &[u32], prices: Prices, x: Cuts, y: Cuts) -> Best
     requires { TwoCutRoutes legs.now prices x y }
     ensures { found result ≡ after_all legs.now prices x y }
 {
-    let a = x.before;
-    let b = y.before;
-    let price = pair_price(legs, prices, a.head, a.tail, b.head, b.tail);
+    let price = pair_price(legs, prices, x.before, y.before);
     let old = Best { code: 0, price };
     let p = two_opt_cuts::reversed(x);
     let q = two_opt_cuts::reversed(y);
@@ -134,23 +126,28 @@ fn least_of_cuts(legs: &[u32], prices: Prices, x: Cuts, y: Cuts) -> Best
     least_of_turns(legs, prices, p, q, 48, first)
 }
 
-// The kept candidate of two routes.
+// A stop, and the vehicle on whose route it is.
+#[derive(Clone, Copy)]
+pub struct Visit {
+    pub vehicle: usize,
+    pub stop: u32,
+}
+
+// The kept candidate of two stops on two routes.
 pub fn least_pair(
     legs: &[u32],
     prices: Prices,
-    a: usize,
+    first: Visit,
     ra: &[u32],
-    s: u32,
-    b: usize,
+    second: Visit,
     rb: &[u32],
-    t: u32,
 ) -> Best
-    requires { Routes legs.now prices a ra.now s b rb.now t }
-    ensures { found result ≡ least_pair legs.now prices a ra.now s b rb.now t }
+    requires { Routes legs.now prices first.vehicle ra.now first.stop second.vehicle rb.now second.stop }
+    ensures { found result ≡ least_pair legs.now prices first.vehicle ra.now first.stop second.vehicle rb.now second.stop }
 {
-    let i = solution::position(ra, s);
-    let j = solution::position(rb, t);
-    let x = two_opt_cuts::cut_at(legs, a, b, ra, i);
-    let y = two_opt_cuts::cut_at(legs, a, b, rb, j);
+    let i = solution::position(ra, first.stop);
+    let j = solution::position(rb, second.stop);
+    let x = two_opt_cuts::cut_at(legs, first.vehicle, second.vehicle, ra, i);
+    let y = two_opt_cuts::cut_at(legs, first.vehicle, second.vehicle, rb, j);
     least_of_cuts(legs, prices, x, y)
 }

@@ -3,13 +3,17 @@ use mathlib.Core.Path.{◌≡◌, refl, sym, ap, ◌∙◌}
 use Prim.Native.Nat.{ℕ, ◌+◌, ◌-◌, ◌≤◌, ◌<◌}
 use native.Mathlib.Omega.{arith}
 use native.Mathlib.Numerals.{add-one}
-use mathlib.Core.List.{List, [], ◌∷◌, ◌++◌, reverse, reverse-cons, reverse-reverse}
-use lib.ListN.{length, get_or, take, drop, length-take, length-drop, length-reverse}
+use mathlib.Core.List.{List, [], ◌∷◌, ◌++◌, reverse, reverse-cons, reverse-reverse, append_assoc, append-nil}
+use borrow.Author.Tests.{eq-eqb}
+use Rattle.std.specs.Prelude.{Option, Some, None}
+use Rattle.std.specs.Iterator.{AlwaysYields}
+use lib.ListN.{length, get_or, take, drop, length-append, length-take, length-drop, length-reverse}
 use lib.Seq.{take-suc, drop-cons}
 use Rattle.model.specs.Plan.{Route}
 use Rattle.model.specs.Legs.{leg_at, depot, LegTable}
+use Rattle.model.specs.Lists.{count}
 use Rattle.model.proofs.Counts.{count-reverse}
-use Rattle.model.proofs.Lists.{take-reverse, drop-reverse}
+use Rattle.model.proofs.Lists.{take-reverse, drop-reverse, count-append}
 use Rattle.distance.specs.Ways.{table_legs, walked, walked_back, last_place, Below, Drivable}
 use Rattle.distance.proofs.Laws.{last-near, drivable-take, drivable-drop, walked-append, back-append, last-append, walked-small, back-small, way-append, way-reverse}
 use Rattle.two_opt_cuts.specs.declared.End.{End}
@@ -64,7 +68,61 @@ module _ (t : List ℕ) (a b : ℕ) (r : Route) (i : ℕ) {e : Ends} where
         ends-short h 63 ha hb (λ s k. (drivable-drop i r D).stops s (omega (arith, count-reverse s (drop i r))))
         (rw length-reverse (omega (arith, length-drop i r, D.few)))
 
+-- ---- along what an iterator gives: v reads an item
+
+module _ {S A : Type 0} (steps : S → Option A → S → Type 0) (v : A → ℕ) (t : List ℕ) (a b : ℕ) (xs : Route) where
+  -- a walk over xs that has come to s: what is passed, and what is left
+  pub record Walk (s : S) (e : Ends) : Type 0 where
+    pub passed : Route
+    pub left : Route
+    pub whole : passed ++ left ≡ xs
+    pub more : AlwaysYields steps v s left
+    pub ends : EndsOf t a b passed e
+
+  pub walk_start : {s : S} {e : Ends} → AlwaysYields steps v s xs → EndsOf t a b [] e → Walk s e
+  walk_start m E = record { passed = []; left = xs; whole = refl; more = m; ends = E }
+
+  next-left : {s s' : S} {x : A} (left : Route) → AlwaysYields steps v s left → steps s (Some x) s'
+      → (ys : Route) × (left ≡ v x ∷ ys) × AlwaysYields steps v s' ys
+  next-left {s} {s'} {x} [] m h = absurd (m x s' h)
+  next-left {s} {s'} {x} (y ∷ ys) m h = let p = m.1 x s' h in (ys, ap (λ z. z ∷ ys) (sym p.0), p.1)
+
+  none-left : {s s' : S} (left : Route) → AlwaysYields steps v s left → steps s None s' → left ≡ []
+  none-left [] m h = refl
+  none-left {s} {s'} (y ∷ ys) m h = absurd (m.0 s' h)
+
+  module _ {s : S} {e : Ends} (W : Walk s e) where
+    -- another stop
+    module _ {s' : S} {x : A} (h : steps s (Some x) s') where
+      pub walk_more : {f : Ends} → EndsOf t a b (W.passed ++ v x ∷ []) f → Walk s' f
+      walk_more E =
+          let N = next-left {s = s} {s' = s'} {x = x} W.left W.more h in
+          record { passed = W.passed ++ v x ∷ []; left = N.0; whole = append_assoc W.passed (v x ∷ []) N.0 ∙ ap (λ r. W.passed ++ r) (sym N.1) ∙ W.whole; more = N.2; ends = E }
+
+      module _ (D : Drivable xs) where
+        pub walk-stop : v x < 64
+        walk-stop =
+            let N = next-left {s = s} {s' = s'} {x = x} W.left W.more h in
+            let c : 1 ≤ count (v x) (v x ∷ N.0) = rw (eq-eqb (v x) (v x) refl) (omega arith) in
+            D.stops (v x) (omega (arith, c, ap (count (v x)) W.whole, ap (count (v x)) N.1, count-append (v x) W.passed W.left))
+
+        pub walk-room : LegTable t → a < 16 → b < 16 → Shorts 63 e
+        walk-room T ha hb =
+            let N = next-left {s = s} {s' = s'} {x = x} W.left W.more h in
+            ends-short T 63 ha hb (λ y k. D.stops y (omega (arith, k, ap (count y) W.whole, count-append y W.passed W.left)))
+            (omega (arith, D.few, ap length W.whole, ap length N.1, length-append W.passed W.left)) W.ends
+
+    -- no stop more
+    pub walk-over : {s' : S} → steps s None s' → EndsOf t a b xs e
+    walk-over {s'} h =
+        let n = none-left {s = s} {s' = s'} W.left W.more h in
+        let e : W.passed ≡ xs = sym (append-nil W.passed) ∙ ap (λ r. W.passed ++ r) (sym n) ∙ W.whole in
+        rw e at W.ends
+
 -- ---- cuts
+
+pub drivable-reverse : (xs : Route) → Drivable xs → Drivable (reverse xs)
+drivable-reverse xs D = record { few = rw length-reverse D.few; stops = λ s k. D.stops s (omega (arith, count-reverse s xs)) }
 
 module _ {t : List ℕ} {a b : ℕ} {r : Route} {c : Cut} where
   -- a reversed route has its tail for a head

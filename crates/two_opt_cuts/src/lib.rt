@@ -3,6 +3,7 @@
 #![tactic(auto)]
 
 ghost use Rattle.std.specs.Prelude.{◌≡◌, List, [], ◌∷◌, ◌++◌, reverse, ℕ, ◌<◌, length};
+ghost use Rattle.std.specs.Iterator.{AlwaysYields, IsFinite};
 ghost use Rattle.model.specs.Plan.{Route};
 ghost use Rattle.model.specs.Legs.{LegTable};
 ghost use Rattle.distance.specs.Ways.{Drivable};
@@ -16,7 +17,8 @@ pub struct End {
     pub back: u32,
 }
 
-// The same stops on each of two vehicles.
+// The same stops on each of two vehicles. This struct and the next two are no one generic pair: their fields say which vehicle,
+// which side of a cut and which cut is meant, and `.0` and `.1` would not.
 #[derive(Clone, Copy)]
 pub struct Ends {
     pub first: End,
@@ -72,36 +74,24 @@ fn empty(vehicle: usize) -> End
     }
 }
 
-// The ends of a head: the stops of a part, from the front.
-fn head_ends(legs: &[u32], a: usize, b: usize, part: &[u32]) -> Ends
-    requires { LegTable legs.now × (a < 16) × (b < 16) × Drivable part.now }
-    ensures { EndsOf legs.now a b part.now result }
+// The ends of the stops that an iterator gives, one after another: from the front of a route on they make a head, from its back a tail.
+fn ends_along<'a, I: Iterator<Item = &'a u32> + Drop>(
+    legs: &[u32],
+    a: usize,
+    b: usize,
+    stops: I,
+) -> Ends
+    requires ready { LegTable legs.now × (a < 16) × (b < 16) }
+    requires next { I.can_next stops × IsFinite (I.remaining stops) }
+    requires gives { (xs : Route) × AlwaysYields I.next_gives (λ s. s.now) stops xs × Drivable xs }
+    ensures { (xs : Route) → AlwaysYields I.next_gives (λ s. s.now) stops xs → EndsOf legs.now a b xs result }
 {
     let mut ends = Ends {
         first: empty(a),
         second: empty(b),
     };
-    let mut i = 0;
-    while i < part.len() {
-        ends = with_stop(legs, ends, part[i]);
-        i += 1;
-    }
-    ends
-}
-
-// The ends of a tail: the stops of a part, from the back.
-fn tail_ends(legs: &[u32], a: usize, b: usize, part: &[u32]) -> Ends
-    requires { LegTable legs.now × (a < 16) × (b < 16) × Drivable part.now }
-    ensures { EndsOf legs.now a b (reverse part.now) result }
-{
-    let mut ends = Ends {
-        first: empty(a),
-        second: empty(b),
-    };
-    let mut i = part.len();
-    while 0 < i {
-        i -= 1;
-        ends = with_stop(legs, ends, part[i]);
+    for stop in stops {
+        ends = with_stop(legs, ends, *stop);
     }
     ends
 }
@@ -111,8 +101,8 @@ pub fn cut_at(legs: &[u32], a: usize, b: usize, route: &[u32], i: usize) -> Cuts
     requires { LegTable legs.now × (a < 16) × (b < 16) × Drivable route.now × (i < length route.now) }
     ensures { CutBy legs.now a b route.now i result }
 {
-    let up = head_ends(legs, a, b, &route[..i]);
-    let down = tail_ends(legs, a, b, &route[i + 1..]);
+    let up = ends_along(legs, a, b, route[..i].iter());
+    let down = ends_along(legs, a, b, route[i + 1..].iter().rev());
     let upto = with_stop(legs, up, route[i]);
     let from = with_stop(legs, down, route[i]);
     Cuts {
@@ -131,12 +121,14 @@ pub fn cut_at(legs: &[u32], a: usize, b: usize, route: &[u32], i: usize) -> Cuts
 pub fn reversed(cuts: Cuts) -> Cuts
     ensures { result ≡ reversed_cuts cuts }
 {
-    let x = cuts.before;
-    let y = cuts.after;
-    let up = x.head;
-    let from = x.tail;
-    let upto = y.head;
-    let down = y.tail;
+    let Cut {
+        head: up,
+        tail: from,
+    } = cuts.before;
+    let Cut {
+        head: upto,
+        tail: down,
+    } = cuts.after;
     Cuts {
         before: Cut {
             head: down,

@@ -1,18 +1,16 @@
 -- Laws of what is written into rows, and of the places where these are cut.
-use Prim.Native.Nat.{ℕ, ◌+◌, ◌-◌, ◌≤◌}
+use Prim.Native.Nat.{ℕ, ◌+◌, ◌≤◌}
 use native.Mathlib.Omega.{arith}
 use mathlib.Core.Path.{◌≡◌, sym, ap, ◌∙◌}
 use mathlib.Core.Bool.{Bool}
-use mathlib.Core.List.{List, ◌++◌}
-use lib.ListN.{length, take, drop, length-append, length-take, length-drop}
+use mathlib.Core.List.{List}
+use lib.ListN.{length, take, drop, length-take}
 use lib.Seq.{take_at}
 use Rattle.model.specs.Plan.{Route}
 use Rattle.model.specs.TwoOpt.{turned}
-use Rattle.model.proofs.Lists.{part_end}
 use Rattle.pasting.specs.Put.{put}
 use Rattle.two_opt_candidates.specs.Pairs.{choice_of}
 use Rattle.two_opt_candidates.specs.declared.Choice.{Choice}
-use Rattle.two_opt_inter.specs.Move.{joined_route}
 
 -- the first m of a row are xs
 pub record Front (row : List ℕ) (m : ℕ) (xs : List ℕ) : Type 0 where
@@ -30,24 +28,6 @@ front row after xs m e h =
 -- what is known of a test that led there, and of what was written
 pub written-turned : (row after : List ℕ) (r : Route) {t u : Bool} → t ≡ u → after ≡ put row 0 (turned u r) → after ≡ put row 0 (turned t r)
 written-turned row after r e w = rw e w
-
-pub written-joined : (row after : List ℕ) (m : ℕ) {heads tails h g : Bool} (own : Route) (i : ℕ) (other : Route) (j : ℕ) → heads ≡ h → tails ≡ g
-    → (m ≡ length (joined_route h g own i other j)) × (after ≡ put row 0 (joined_route h g own i other j))
-    → (m ≡ length (joined_route heads tails own i other j)) × (after ≡ put row 0 (joined_route heads tails own i other j))
-written-joined row after m own i other j eh eg w = rw (eh, eg) w
-
--- ---- a head and a tail, which is the part of its row from the cut up to the end
-
-module _ (head : Route) (upto : ℕ) (tail : Route) (from : ℕ) where
-  pub ends-fit : (k : ℕ) → upto ≤ length head → from ≤ length tail → upto + length tail ≤ k + from
-      → 0 + length (take upto head) + length (take (length tail - from) (drop from tail)) ≤ k
-  ends-fit k h g f = rw (part_end from tail) (omega (arith, length-take upto head, length-drop from tail))
-
-  pub ends-written : (row after : List ℕ) (m : ℕ)
-      → m ≡ 0 + length (take upto head) + length (take (length tail - from) (drop from tail))
-      → after ≡ put row 0 (take upto head ++ take (length tail - from) (drop from tail))
-      → (m ≡ length (take upto head ++ drop from tail)) × (after ≡ put row 0 (take upto head ++ drop from tail))
-  ends-written row after m em e = (rw (part_end from tail) at em ∙ simp length-append (omega arith), rw (part_end from tail) at e)
 
 -- where a candidate cuts its rows
 pub choice-cuts : (code i j : ℕ) (c : Choice) → c ≡ choice_of code i j → (c.first ≤ i + 1) × (c.second ≤ j + 1)

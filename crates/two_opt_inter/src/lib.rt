@@ -13,26 +13,27 @@ ghost use Rattle.two_opt_inter.specs.Move.{OnTwoRoutes, TwoRoutes, Pair, NewRows
 
 use model::Prices;
 use two_opt_candidates::Best;
+pub use two_opt_candidates::Visit;
 
-// The kept candidate of a pair of stops on routes a and b of a plan.
+// The kept candidate of a pair of stops on two routes of a plan.
 fn least_of_plan(
     legs: &[u32],
     v: usize,
     n: usize,
     prices: Prices,
     plan: &[u32],
-    a: usize,
-    s: u32,
-    b: usize,
-    t: u32,
+    first: Visit,
+    second: Visit,
 ) -> Best
     requires ready { Ready legs.now v n prices plan.now }
-    requires on_two_routes { OnTwoRoutes v plan.now a s b t }
-    ensures { result.code ≡ (least_pair legs.now prices a (route_of (decode v plan.now) a) s b (route_of (decode v plan.now) b) t).0 }
+    requires on_two_routes { OnTwoRoutes v plan.now first.vehicle first.stop second.vehicle second.stop }
+    ensures { let ra = route_of (decode v plan.now) first.vehicle in
+        let rb = route_of (decode v plan.now) second.vehicle in
+        result.code ≡ (least_pair legs.now prices first.vehicle ra first.stop second.vehicle rb second.stop).0 }
 {
-    let ra = solution::route(plan, v, n, a);
-    let rb = solution::route(plan, v, n, b);
-    two_opt_candidates::least_pair(legs, prices, a, ra, s, b, rb, t)
+    let ra = solution::route(plan, v, n, first.vehicle);
+    let rb = solution::route(plan, v, n, second.vehicle);
+    two_opt_candidates::least_pair(legs, prices, first, ra, second, rb)
 }
 
 // Writes a route into the front of a row, reversed or not.
@@ -47,39 +48,22 @@ fn write_turned(reversed: bool, route: &[u32], row: &mut [u32])
     pasting::paste(row, 0, route);
 }
 
-// Writes the head of one row, up to a cut, and the tail of another from a cut on, which is handed on as a part of that row.
-fn write_ends(row: &mut [u32], head: &[u32], upto: usize, tail: &[u32], from: usize) -> usize
-    requires { (upto ≤ length head.now) × (from ≤ length tail.now) × (upto + length tail.now ≤ length row.old + from) }
-    ensures value { result ≡ length (take upto head.now ++ drop from tail.now) }
-    ensures row_after { row.new ≡ put row.old 0 (take upto head.now ++ drop from tail.now) }
-{
-    pasting::join(row, 0, &head[..upto], &tail[from..])
+// A row of stops, and a place on it: that of a stop, or that of a cut.
+#[derive(Clone, Copy)]
+struct Row<'a> {
+    stops: &'a [u32],
+    at: usize,
 }
 
-// The same for a head and a tail that are each of the route's own row or of the other one.
-fn write_joined(
-    row: &mut [u32],
-    heads: bool,
-    tails: bool,
-    own: &[u32],
-    i: usize,
-    other: &[u32],
-    j: usize,
-) -> usize
-    requires { (i ≤ length own.now) × (j ≤ length other.now) × (length own.now + length other.now ≤ length row.old) }
-    ensures value { result ≡ length (joined_route heads tails own.now i other.now j) }
-    ensures row_after { row.new ≡ put row.old 0 (joined_route heads tails own.now i other.now j) }
+// Writes a head, up to the cut of a row, and a tail, from a cut on, which are each of the route's own row or of the other one.
+fn write_joined(row: &mut [u32], heads: bool, tails: bool, own: Row, other: Row) -> usize
+    requires { (own.at ≤ length own.stops.now) × (other.at ≤ length other.stops.now) × (length own.stops.now + length other.stops.now ≤ length row.old) }
+    ensures value { result ≡ length (joined_route heads tails own.entry.stops.now own.entry.at other.entry.stops.now other.entry.at) }
+    ensures row_after { row.new ≡ put row.old 0 (joined_route heads tails own.entry.stops.now own.entry.at other.entry.stops.now other.entry.at) }
 {
-    if heads {
-        if tails {
-            return write_ends(row, own, i, own, i);
-        }
-        return write_ends(row, own, i, other, j);
-    }
-    if tails {
-        return write_ends(row, other, j, own, i);
-    }
-    write_ends(row, other, j, other, j)
+    let head = if heads { own } else { other };
+    let tail = if tails { own } else { other };
+    pasting::join(row, 0, &head.stops[..head.at], &tail.stops[tail.at..])
 }
 
 // Writes the plan of a candidate that is made of two rows, in which the stops of the pair stand at i and j.
@@ -89,21 +73,28 @@ fn write_pair(
     v: usize,
     n: usize,
     a: usize,
-    ra: &[u32],
-    i: usize,
+    ra: Row,
     b: usize,
-    rb: &[u32],
-    j: usize,
+    rb: Row,
     code: usize,
 )
-    requires { TwoRoutes v n old.now a b × NewRows v old.now a ra.now i b rb.now j × (length plan.old ≡ v + n) }
-    ensures { plan.new ≡ encode n (set_route b (pair_of ra.now i rb.now j code).1 (set_route a (pair_of ra.now i rb.now j code).0 (decode v old.now))) }
+    requires { TwoRoutes v n old.now a b × NewRows v old.now a ra.stops.now ra.at b rb.stops.now rb.at × (length plan.old ≡ v + n) }
+    ensures { let new = pair_of ra.entry.stops.now ra.entry.at rb.entry.stops.now rb.entry.at code in
+        plan.new ≡ encode n (set_route b new.1 (set_route a new.0 (decode v old.now))) }
 {
-    let c = two_opt_candidates::choice_of(code, i, j);
+    let c = two_opt_candidates::choice_of(code, ra.at, rb.at);
+    let first = Row {
+        stops: ra.stops,
+        at: c.first,
+    };
+    let second = Row {
+        stops: rb.stops,
+        at: c.second,
+    };
     let mut x = [0u32; 64];
-    let p = write_joined(&mut x, c.heads, c.tails, ra, c.first, rb, c.second);
+    let p = write_joined(&mut x, c.heads, c.tails, first, second);
     let mut y = [0u32; 64];
-    let q = write_joined(&mut y, c.heads, c.tails, rb, c.second, ra, c.first);
+    let q = write_joined(&mut y, c.heads, c.tails, second, first);
     joining::replace_two(old, plan, v, n, a, &x[..p], b, &y[..q]);
 }
 
@@ -113,17 +104,15 @@ fn write_candidate(
     plan: &mut [u32],
     v: usize,
     n: usize,
-    a: usize,
-    s: u32,
-    b: usize,
-    t: u32,
+    first: Visit,
+    second: Visit,
     code: usize,
 )
-    requires { Pair v n old.now a s b t × (length plan.old ≡ v + n) }
-    ensures { plan.new ≡ encode n (plan_at (decode v old.now) a s b t code) }
+    requires { Pair v n old.now first.vehicle first.stop second.vehicle second.stop × (length plan.old ≡ v + n) }
+    ensures { plan.new ≡ encode n (plan_at (decode v old.now) first.vehicle first.stop second.vehicle second.stop code) }
 {
-    let ra = solution::route(old, v, n, a);
-    let rb = solution::route(old, v, n, b);
+    let ra = solution::route(old, v, n, first.vehicle);
+    let rb = solution::route(old, v, n, second.vehicle);
     let m = ra.len();
     let k = rb.len();
     let mut xa = [0u32; 64];
@@ -132,37 +121,37 @@ fn write_candidate(
     write_turned(code / 16 % 2 == 1, rb, &mut xb);
     let ta = &xa[..m];
     let tb = &xb[..k];
-    let i = solution::position(ta, s);
-    let j = solution::position(tb, t);
-    write_pair(old, plan, v, n, a, ta, i, b, tb, j, code);
+    let i = solution::position(ta, first.stop);
+    let j = solution::position(tb, second.stop);
+    let xs = Row { stops: ta, at: i };
+    let ys = Row { stops: tb, at: j };
+    write_pair(old, plan, v, n, first.vehicle, xs, second.vehicle, ys, code);
 }
 
 // The code of the plan as it is.
 const OLD_PLAN: usize = 0;
 
-// The two-opt move of stop s on route a and stop t on route b of a plan: the kept candidate is written, unless it is the old plan.
+// The two-opt move of two stops on two routes of a plan: the kept candidate is written, unless it is the old plan.
 pub fn inter(
     legs: &[u32],
     v: usize,
     n: usize,
     prices: Prices,
     plan: &mut [u32],
-    a: usize,
-    s: u32,
-    b: usize,
-    t: u32,
+    first: Visit,
+    second: Visit,
 )
     requires ready { Ready legs.now v n prices plan.old }
-    requires on_two_routes { OnTwoRoutes v plan.old a s b t }
-    ensures plan_after { (J : Job) → Fits J legs.now v n prices → plan.new ≡ encode n (inter J (decode v plan.old) a s b t) }
+    requires on_two_routes { OnTwoRoutes v plan.old first.vehicle first.stop second.vehicle second.stop }
+    ensures plan_after { (J : Job) → Fits J legs.now v n prices → plan.new ≡ encode n (inter J (decode v plan.old) first.vehicle first.stop second.vehicle second.stop) }
     ensures lent { Lent v n plan.new }
 {
-    let best = least_of_plan(legs, v, n, prices, plan, a, s, b, t);
+    let best = least_of_plan(legs, v, n, prices, plan, first, second);
     let code = best.code;
     if code == OLD_PLAN {
         return;
     }
     let mut old = [0u32; 80];
     let m = pasting::paste(&mut old, 0, plan);
-    write_candidate(&old[..m], plan, v, n, a, s, b, t, code);
+    write_candidate(&old[..m], plan, v, n, first, second, code);
 }

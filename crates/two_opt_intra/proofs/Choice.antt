@@ -26,7 +26,6 @@ use Rattle.distance.specs.Ways.{RouteLength}
 use Rattle.distance.proofs.Laws.{way-route}
 use Rattle.delivery.proofs.Laws.{price-small}
 use Rattle.pasting.specs.Put.{put}
-use Rattle.pasting.proofs.Put.{put_all}
 use Rattle.delivery.specs.Costs.{table_price, Ready}
 use Rattle.two_opt_intra.specs.Reordered.{cheaper, reordered, Weighable, Weighs}
 
@@ -73,24 +72,20 @@ module _ {t : List ℕ} {p : Prices} {k : ℕ} where
 -- ---- a new form x of the route r, at the front of an array d
 
 pub record Front (r x d : List ℕ) : Type 0 where
-  pub stands : take (length r - 0) d ≡ x
+  pub stands : take (length r) d ≡ x
   pub alike : Alike r x
 
 pub front : (r x d₀ d : List ℕ) → d ≡ put d₀ 0 x → Alike r x → Front r x d
 front r x d₀ d e a =
-    let l : length r - 0 ≡ length x = omega (arith, alike-length r x a) in
+    let l : length r ≡ length x = omega (arith, alike-length r x a) in
     record { stands = rw (e, l) (take_at x _ (length x) refl); alike = a }
 
 module _ {r x d : List ℕ} (F : Front r x d) where
-  pub weighable-front : {t : List ℕ} {p : Prices} {k : ℕ} → Weighable t p k r → Weighable t p k (take (length r - 0) d)
+  pub weighable-front : {t : List ℕ} {p : Prices} {k : ℕ} → Weighable t p k r → Weighable t p k (take (length r) d)
   weighable-front {t} {p} {k} W = subst (Weighable t p k) (sym F.stands) (weighable-alike F.alike W)
 
-  pub weighs-front : {t : List ℕ} {p : Prices} {k : ℕ} {c : Float} → Weighs t p k (take (length r - 0) d) c → Weighs t p k x c
+  pub weighs-front : {t : List ℕ} {p : Prices} {k : ℕ} {c : Float} → Weighs t p k (take (length r) d) c → Weighs t p k x c
   weighs-front {t} {p} {k} {c} W = subst (λ (q : Route). Weighs t p k q c) F.stands W
-
-  -- and from there over the route
-  pub pasted : (y : List ℕ) → y ≡ put r 0 (take (length r - 0) d) → y ≡ x
-  pasted y e = e ∙ rw F.stands (put_all r x (alike-length r x F.alike))
 
 -- ---- the choice over the table
 

@@ -63,23 +63,21 @@ module _ {t : List ℕ} {v n : ℕ} {p : Prices} {xs : List ℕ} {k s u start : 
     j-is : j ≡ position u (route_of (decode v xs) k)
     j-is = ej ∙ ap (position u) here
 
-    pub upward : i < j → Ordered (route_of (decode v xs) k) s u i j
-    upward h =
-        record {
-          low = omega (arith, i-is, j-is);
-          high = omega (arith, i-is, j-is);
-          apart = h;
-          inside = omega (arith, j-is, position-lt u (route_of (decode v xs) k) G.one.second);
-        }
-
-    pub downward : j ≤ i → Ordered (route_of (decode v xs) k) s u j i
-    downward h =
+    -- the stops are apart, so the lower position is below the higher
+    pub ordered : {lo hi : ℕ} → lo ≡ min i j → hi ≡ max i j → Ordered (route_of (decode v xs) k) s u lo hi
+    ordered el eh =
         let ne : i ≢ j = λ q. position-apart s u (route_of (decode v xs) k) G.one.first G.one.second G.one.apart (sym i-is ∙ (q ∙ j-is)) in
         record {
           low = omega (arith, i-is, j-is);
           high = omega (arith, i-is, j-is);
           apart = omega (arith, ne);
-          inside = omega (arith, i-is, position-lt s (route_of (decode v xs) k) G.one.first);
+          inside = omega (
+            arith,
+            i-is,
+            j-is,
+            position-lt s (route_of (decode v xs) k) G.one.first,
+            position-lt u (route_of (decode v xs) k) G.one.second,
+          );
         }
 
   module _ {lo hi : ℕ} (o : Ordered (route_of (decode v xs) k) s u lo hi) where

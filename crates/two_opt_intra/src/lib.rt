@@ -26,25 +26,23 @@ fn reorder(legs: &[u32], prices: Prices, vehicle: usize, route: &mut [u32], i: u
     requires i_lt_j { (i < j) × (j < length route.old) }
     ensures { route.new ≡ reordered legs.now prices vehicle i j route.old }
 {
+    let m = route.len();
     let mut first = [0u32; 64];
     let mut second = [0u32; 64];
-    let m = route.len();
     two_opt_inversions::ends_exchanged(route, i, j, &mut first);
     two_opt_inversions::inverted(route, i, j, &mut second);
-    let a = weigh(legs, prices, vehicle, &first[0..m]);
-    let b = weigh(legs, prices, vehicle, &second[0..m]);
+    let a = weigh(legs, prices, vehicle, &first[..m]);
+    let b = weigh(legs, prices, vehicle, &second[..m]);
     let old = weigh(legs, prices, vehicle, route);
-    if b < a {
-        if old < b {
-            return;
-        }
-        pasting::paste(route, 0, &second[0..m]);
+    let (form, cost) = if b < a {
+        (&second[..m], b)
+    } else {
+        (&first[..m], a)
+    };
+    if old < cost {
         return;
     }
-    if old < a {
-        return;
-    }
-    pasting::paste(route, 0, &first[0..m]);
+    route.copy_from_slice(form);
 }
 
 // The pair s, t on route k: least cost of the two new routes and the old one, on ties the earliest.
@@ -65,11 +63,8 @@ pub fn intra(
 {
     let start = solution::offset(plan, v, k);
     let end = start + plan[k] as usize;
-    let i = solution::position(&plan[start..end], s);
-    let j = solution::position(&plan[start..end], t);
-    if i < j {
-        reorder(legs, prices, k, &mut plan[start..end], i, j);
-    } else {
-        reorder(legs, prices, k, &mut plan[start..end], j, i);
-    }
+    let route = &mut plan[start..end];
+    let i = solution::position(route, s);
+    let j = solution::position(route, t);
+    reorder(legs, prices, k, route, i.min(j), i.max(j));
 }

@@ -12,7 +12,7 @@ pub fn ends_exchanged(route: &[u32], i: usize, j: usize, out: &mut [u32])
 {
     let a = pasting::paste_reversed(out, 0, &route[j..]);
     let b = pasting::paste(out, a, &route[i + 1..j]);
-    pasting::paste_reversed(out, b, &route[0..i + 1]);
+    pasting::paste_reversed(out, b, &route[..i + 1]);
 }
 
 // Writes the inversion of Croes 1958, r[..i+1], r[i+1..j] reversed, r[j..], to the front of `out`.
@@ -20,7 +20,7 @@ pub fn inverted(route: &[u32], i: usize, j: usize, out: &mut [u32])
     requires { (i < j) × (j < length route.now) × (length route.now ≤ length out.old) }
     ensures { out.new ≡ put out.old 0 (inverted i j route.now) }
 {
-    let a = pasting::paste(out, 0, &route[0..i + 1]);
+    let a = pasting::paste(out, 0, &route[..i + 1]);
     let b = pasting::paste_reversed(out, a, &route[i + 1..j]);
     pasting::paste(out, b, &route[j..]);
 }

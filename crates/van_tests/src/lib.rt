@@ -45,7 +45,8 @@ fn on_others_van(plan: &[u32], v: usize, n: usize, vans: u32, stop: u32) -> bool
     }
 }
 
-// Of a move by a caller whose set names no van from v on.
+// Of a move by a caller whose set names no van from v on. One test after another, as each may be made only where those before it do not apply:
+// as one disjunction of four calls it is no plainer.
 pub fn bad_move(
     plan: &[u32],
     v: usize,

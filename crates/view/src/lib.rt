@@ -14,15 +14,9 @@ fn see_lengths(plan: &[u32], v: usize, n: usize, vans: u32, lengths: &mut [u32])
     requires lengths_len { length lengths.old ≡ v }
     ensures { lengths.new ≡ map length (view vans (decode v plan.now)) }
 {
-    let mut k = 0;
-    while k < v {
-        let size = plan[k];
-        if stop_set::contains(vans as u64, k as u32) {
-            lengths[k] = size;
-        } else {
-            lengths[k] = 0;
-        }
-        k += 1;
+    for k in 0..v {
+        let own = stop_set::contains(vans as u64, k as u32);
+        lengths[k] = if own { plan[k] } else { 0 };
     }
 }
 
@@ -34,14 +28,12 @@ fn see_stops(plan: &[u32], v: usize, n: usize, vans: u32, area: &mut [u32])
 {
     let mut at = 0;
     let mut from = v;
-    let mut k = 0;
-    while k < v {
+    for k in 0..v {
         let end = from + plan[k] as usize;
         if stop_set::contains(vans as u64, k as u32) {
             at = pasting::paste(area, at, &plan[from..end]);
         }
         from = end;
-        k += 1;
     }
     pasting::fill(&mut area[at..], 4294967295);
 }
@@ -53,9 +45,7 @@ fn unplaced_set(plan: &[u32], v: usize, n: usize) -> u64
 {
     let placed = solution::placed_set(plan, v, n);
     let mut set: u64 = 0;
-    let mut s = n as u32;
-    while 0 < s {
-        s -= 1;
+    for s in (0..n as u32).rev() {
         if !stop_set::contains(placed, s) {
             set = stop_set::with(set, s);
         }

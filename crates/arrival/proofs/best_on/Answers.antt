@@ -1,4 +1,4 @@
-use Prim.Native.Nat.{ℕ, suc}
+use Prim.Native.Nat.{ℕ, suc, ◌+◌}
 use mathlib.Core.Path.{◌≡◌, ap, ◌∙◌}
 use native.Mathlib.Omega.{arith}
 use lib.Ieee.{binary64, add, sub}
@@ -70,4 +70,18 @@ returns c =
     let e : l.place ≡ suc (long a.route.now) = omega (arith, l.invariant.0) in (
       l.invariant.1,
       l.invariant.2 ∙ ap (λ (i : ℕ). tried_on a.legs.now a.prices a.v a.k a.route.now (amount a.left) a.stop i (triple a.best)) e,
+    )
+
+-- the last place, after which the range has no other
+pub returns-2 : goal.returns-2
+unfolding weighed
+returns-2 c =
+    let l = c.loop-place in
+    let a = c.args in
+    let w = weighed (goal.at.returns-2 c).After-price-in-loop-place in
+    let e : l.place + 1 ≡ suc (long a.route.now) = omega arith in (
+      c.better-found.ensures.0,
+      tried-more a.legs.now a.prices a.v a.k a.route.now (amount a.left) a.stop (triple a.best) l.place _ (triple l.found) (triple c.better-found.result)
+          (amount-is _ w.0 w.1 w.2) l.invariant.2 c.better-found.ensures.1
+          ∙ ap (λ (i : ℕ). tried_on a.legs.now a.prices a.v a.k a.route.now (amount a.left) a.stop i (triple a.best)) e,
     )

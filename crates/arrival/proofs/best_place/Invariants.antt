@@ -1,5 +1,5 @@
 -- The invariant: the best so far is the choice among the places of the vehicles passed.
-use Prim.Native.Nat.{◌-◌, ◌≤◌}
+use Prim.Native.Nat.{◌≤◌}
 use Rattle.model.specs.Whole.{IsWhole}
 use Rattle.model.specs.Plan.{decode}
 use Rattle.model.specs.StopSet.{including}
@@ -14,6 +14,3 @@ invariant-loop-k l =
     (l.k ≤ l.v)
     × IsWhole l.found.cost
     × Chosen (table_live l.legs l.prices (including l.stop l.live)) l.v l.stop (decode l.v l.plan) (passed l.stop (decode l.v l.plan) l.k 0) (triple l.found)
-
-abbrev pub decreases-loop-k : goal.decreases-loop-k
-decreases-loop-k l = l.v - l.k

@@ -1,18 +1,9 @@
-use mathlib.Core.Path.{sym, ◌∙◌}
-use native.Mathlib.Omega.{arith}
-use Rattle.call_tests.proofs.Laws.{onward, stops, at-end}
+use Rattle.std.proofs.Common.{rules, ◌<◌}
+use Rattle.std.specs.Prelude.{All, IsTrue, ◌↔◌}
+use Rattle.call_tests.proofs.Laws.{all-below-said}
 use Rattle.call_tests.proofs.all_below.Goals as goal
 
-pub loop-i-init : goal.loop-i-init
-loop-i-init c = search arith
-
-pub returns-then-limit-list : goal.returns-then-limit-list
-returns-then-limit-list c =
-    sym (stops _ _ c.loop-i.i (omega arith) c.if-limit-list.true) ∙ c.loop-i.invariant.1
-
-pub loop-i-preserved : goal.loop-i-preserved
-loop-i-preserved c =
-    (omega arith, onward _ _ c.loop-i.i (omega arith) (omega arith) ∙ c.loop-i.invariant.1)
-
 pub returns : goal.returns
-returns c = sym (at-end _ _ c.loop-i.i (omega arith)) ∙ c.loop-i.invariant.1
+returns c =
+    let h : IsTrue c.all.result ↔ All (λ x. x < c.args.limit) c.args.list.now = search rules in
+    all-below-said _ _ _ h

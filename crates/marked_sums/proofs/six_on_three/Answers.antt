@@ -5,7 +5,7 @@ use Rattle.marked_sums.proofs.six_on_three.Goals as goal
 
 pub count-requires : goal.count-requires
 unfolding decode is_plan
-count-requires c = (gapped 3 6 _ _ (omega arith) (omega arith) refl refl refl (omega arith) refl refl, omega arith)
+count-requires c = (gapped 3 6 _ _ (omega arith) (omega arith) refl refl (omega arith) refl refl, omega arith)
 
 pub returns : goal.returns
 unfolding decode

@@ -2,7 +2,7 @@ use Rattle.std.proofs.Common.{◌≡◌, Err}
 use mathlib.Core.List.{[]}
 use mathlib.Core.Path.{refl, sym, ◌∙◌}
 use Rattle.model.specs.Job.{job_of}
-use Rattle.model.specs.Refusals.{Arguments, asking, Pruned, refusal}
+use Rattle.model.specs.Refusals.{Arguments, asking, Pruned}
 use Rattle.model.specs.Calls.{made}
 use Rattle.call_refusals.proofs.Order.{pruned-order}
 use Rattle.call_refusals.proofs.Accepted.{listed, affordable, small}

@@ -1,7 +1,7 @@
 use Rattle.std.proofs.Common.{◌≡◌, Err}
-use mathlib.Core.Path.{refl, sym, ◌∙◌}
+use mathlib.Core.Path.{refl, sym}
 use Rattle.model.specs.Job.{job_of}
-use Rattle.model.specs.Refusals.{Arguments, asking, Rebuild, refusal}
+use Rattle.model.specs.Refusals.{Arguments, asking, Rebuild}
 use Rattle.model.specs.Calls.{made, begun_by, completed_by}
 use Rattle.call_refusals.proofs.Accepted.{listed, affordable, lent, stops}
 use Rattle.planner.proofs.Saying.{rebuilds-refused, rebuilds-accepted}

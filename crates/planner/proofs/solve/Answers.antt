@@ -1,8 +1,7 @@
 use Rattle.std.proofs.Common.{◌≡◌, Err}
-use native.Mathlib.Omega.{arith}
-use mathlib.Core.Path.{refl, sym, ◌∙◌}
+use mathlib.Core.Path.{refl, sym}
 use Rattle.model.specs.Job.{job_of}
-use Rattle.model.specs.Refusals.{Arguments, Solve, refusal, running}
+use Rattle.model.specs.Refusals.{Arguments, Solve, running}
 use Rattle.model.specs.Calls.{made}
 use Rattle.call_refusals.proofs.Accepted.{listed, affordable, drawable, smooth}
 use Rattle.planner.proofs.Saying.{solves-refused, solves-accepted}

@@ -3,7 +3,7 @@ use mathlib.Core.List.{[]}
 use mathlib.Core.Path.{refl, sym, ◌∙◌}
 use mathlib.Core.List.{◌∷◌}
 use Rattle.model.specs.Job.{job_of}
-use Rattle.model.specs.Refusals.{Arguments, asking, TwoOpt, refusal}
+use Rattle.model.specs.Refusals.{Arguments, asking, TwoOpt}
 use Rattle.model.specs.Calls.{made}
 use Rattle.call_refusals.proofs.Order.{two-opt-order}
 use Rattle.call_refusals.proofs.Accepted.{listed, affordable, lent, stops}

@@ -1,8 +1,8 @@
 use Rattle.std.proofs.Common.{◌≡◌, Err}
 use mathlib.Core.List.{[]}
-use mathlib.Core.Path.{refl, sym, ◌∙◌}
+use mathlib.Core.Path.{refl, sym}
 use Rattle.model.specs.Job.{job_of}
-use Rattle.model.specs.Refusals.{Arguments, asking, Weigh, refusal}
+use Rattle.model.specs.Refusals.{Arguments, asking, Weigh}
 use Rattle.model.specs.Calls.{made}
 use Rattle.call_refusals.proofs.Accepted.{listed, affordable, lent}
 use Rattle.planner.proofs.Saying.{weighs-refused, weighs-accepted}

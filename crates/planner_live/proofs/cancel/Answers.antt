@@ -1,8 +1,8 @@
 use Rattle.std.proofs.Common.{◌≡◌, Err}
-use mathlib.Core.Path.{refl, sym, ◌∙◌}
+use mathlib.Core.Path.{refl, sym}
 use native.Mathlib.Omega.{arith}
 use Rattle.model.specs.Job.{job_of}
-use Rattle.model.specs.Refusals.{Arguments, naming, Cancel, refusal}
+use Rattle.model.specs.Refusals.{Arguments, naming, Cancel}
 use Rattle.model.specs.Calls.{made, new_live}
 use Rattle.call_refusals.proofs.Accepted.{listed, affordable, lent, covers, cancelling}
 use Rattle.planner_live.proofs.Exact.{cancellation-exact}

@@ -1,9 +1,9 @@
 use Rattle.std.proofs.Common.{rules, ◌≡◌, Err}
-use mathlib.Core.Path.{refl, sym, ◌∙◌}
+use mathlib.Core.Path.{refl, sym}
 use native.Mathlib.Omega.{arith}
 use Rattle.model.specs.Job.{job_of}
 use Rattle.model.specs.Roads.{road_from}
-use Rattle.model.specs.Refusals.{Arguments, lengthening, Roadworks, refusal}
+use Rattle.model.specs.Refusals.{Arguments, lengthening, Roadworks}
 use Rattle.call_refusals.proofs.Accepted.{listed, affordable, lent, lengthens}
 use Rattle.call_refusals.proofs.Answers.{raises-refused, raises-accepted}
 use Rattle.planner_roads.proofs.roadworks.Goals as goal

@@ -4,7 +4,7 @@ use mir.Syntax.{w64}
 use mir.ValLaws.{to_z-of_z}
 use Rattle.model.specs.Job.{job_of}
 use Rattle.model.specs.Vans.{move_to}
-use Rattle.model.specs.Refusals.{Arguments, moving, MoveStop, refusal}
+use Rattle.model.specs.Refusals.{Arguments, moving, MoveStop}
 use Rattle.call_refusals.proofs.Accepted.{listed, affordable, lent, allowed}
 use Rattle.call_refusals.proofs.Answers.{moves-refused, moves-accepted}
 use borrow.Author.Rules.{rules}

@@ -1,6 +1,6 @@
 use Rattle.std.proofs.Common.{rules, ◌≡◌, Err}
-use mathlib.Core.Path.{refl, sym, ◌∙◌}
-use Rattle.model.specs.Refusals.{Arguments, looking, tableless, View, refusal}
+use mathlib.Core.Path.{refl, sym}
+use Rattle.model.specs.Refusals.{Arguments, looking, tableless, View}
 use Rattle.call_refusals.proofs.Accepted.{listed, lent, seen-long}
 use Rattle.call_refusals.proofs.Answers.{views-refused, views-accepted}
 use Rattle.planner_vans.proofs.view.Goals as goal

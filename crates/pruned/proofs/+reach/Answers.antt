@@ -151,12 +151,6 @@ reach-found-requires t c =
           (costs t (goal.at.reach-found-requires t c).After-missed_cost) (cost-whole t (goal.at.reach-found-requires t c).After-missed_cost) l.best l.found l.invariant.1.best,
     )
 
-pub overflow_add-k : goal.overflow_add-k
-overflow_add-k t c = let p = c.requires in omega (arith, p.vehicles, c.loop-k-test.true)
-
-pub loop-k-smaller : goal.loop-k-smaller
-loop-k-smaller t c = omega (arith, c.loop-k-test.true)
-
 pub loop-k-preserved : goal.loop-k-preserved
 loop-k-preserved t c =
     let l = c.loop-k in

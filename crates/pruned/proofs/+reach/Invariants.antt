@@ -1,5 +1,4 @@
 -- The proof of the cycle of calls {reach}. The measure is the number of stops that are left.
-use Prim.Native.Nat.{◌-◌}
 use mathlib.Core.Path.{◌≡◌}
 use lib.ListN.{length}
 use Rattle.model.specs.Plan.{decode}
@@ -10,9 +9,6 @@ use Rattle.pruned.proofs.+reach.Given as goal
 abbrev pub invariant-loop-k : goal.invariant-loop-k
 invariant-loop-k l =
     (length l.next ≡ 9) × OnVehicles l.legs l.v l.n l.prices (decode l.v l.plan) (stops_of l.left) l.stop l.initial.best l.best l.found l.k
-
-abbrev pub decreases-loop-k : goal.decreases-loop-k
-decreases-loop-k l = l.v - l.k
 
 abbrev pub invariant-loop-rest : goal.invariant-loop-rest
 invariant-loop-rest l =

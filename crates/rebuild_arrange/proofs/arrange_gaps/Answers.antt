@@ -1,43 +1,39 @@
-use Prim.Native.Nat.{ℕ, ◌+◌, ◌-◌}
-use mathlib.Core.Path.{◌≡◌, refl, ap}
+use Prim.Native.Nat.{ℕ, ◌-◌}
+use mathlib.Core.Path.{refl, ap, ◌∙◌}
 use mathlib.Core.List.{List}
 use native.Mathlib.Omega.{arith}
-use lib.Ieee.{Float}
 use lib.ListN.{get_or}
+use Rattle.rebuild_tables.specs.declared.Frame.{Frame}
 use Rattle.rebuild_tables.specs.Frame.{gap_count, Framing}
-use Rattle.rebuild_arrange.proofs.Zeros.{zeros-small, zeros-whole}
+use Rattle.rebuild_arrange.proofs.Zeros.{zeros-small}
 use Rattle.rebuild_arrange.proofs.Arranging.{addable, visitable, visited-arranged}
 use Rattle.rebuild_arrange.proofs.arrange_gaps.Goals as goal
-use Rattle.rebuild_arrange.proofs.arrange_gaps.Goals.{After-fill-own, After-table_ways}
+use Rattle.rebuild_arrange.proofs.arrange_gaps.Goals.{After-fill-own}
 
-abbrev frame : After-fill-own → List ℕ
-frame c = c.fill-own.new.frame
+abbrev frame : After-fill-own → Frame
+frame c = c.fill-own.result.frame
 
 abbrev framing : (c : After-fill-own) → Framing c.args.plan.now c.args.v c.args.n c.args.regions.now (frame c)
 framing c = c.fill-own.ensures.framing
 
-abbrev ways : After-table_ways → List Float
-ways c = c.table_ways.new.ways
-
 pub fill-own-requires : goal.fill-own-requires
-fill-own-requires c =
-    record { gapped = (c.requires.arrangeable.0.gapped, c.requires.arrangeable.1, c.requires.arrangeable.0.few); frame_len = (refl, λ i a b. zeros-small 64 (omega arith) 104 i) }
+fill-own-requires c = (c.requires.arrangeable.0.gapped, c.requires.arrangeable.1, c.requires.arrangeable.0.few)
 
-pub table_ways-requires : goal.table_ways-requires
-table_ways-requires c =
-    record { plan = c.requires.arrangeable.0; framing = framing (goal.at.table_ways-requires c).After-fill-own; near = c.fill-own.ensures.stops_small; cost = c.requires.cost_value.0; whole = zeros-whole 272 }
+pub table_ways-ways-requires : goal.table_ways-ways-requires
+table_ways-ways-requires c =
+    record { plan = c.requires.arrangeable.0; framing = framing (goal.at.table_ways-ways-requires c).After-fill-own; near = c.fill-own.ensures.stops_small; cost = c.requires.cost_value.0 }
 
 pub others_of-others-requires : goal.others_of-others-requires
 others_of-others-requires c =
     let a = c.args in
-    addable a.legs.now a.v a.n a.prices a.plan.now a.regions.now c.requires.arrangeable.0 (frame (goal.at.others_of-others-requires c).After-fill-own) (framing (goal.at.others_of-others-requires c).After-fill-own) (ways (goal.at.others_of-others-requires c).After-table_ways) c.table_ways.ensures
+    addable a.legs.now a.v a.n a.prices a.plan.now a.regions.now c.requires.arrangeable.0 (frame (goal.at.others_of-others-requires c).After-fill-own) (framing (goal.at.others_of-others-requires c).After-fill-own) c.table_ways-ways.result c.table_ways-ways.ensures
     c.gaps-p.result c.gaps-p.ensures c.drained.result c.drained.ensures
 
 pub visit-found-requires : goal.visit-found-requires
 visit-found-requires c =
     let a = c.args in
-    visitable a.legs.now a.v a.n a.prices a.plan.now a.regions.now c.requires.arrangeable.0 (frame (goal.at.visit-found-requires c).After-fill-own) (framing (goal.at.visit-found-requires c).After-fill-own) (ways (goal.at.visit-found-requires c).After-table_ways) c.table_ways.ensures
-    c.fill-own.result c.fill-own.ensures.value c.placed.result c.placed.ensures a.cost c.requires.cost_value.0 c.others_of-others.result c.gaps-p.result c.drained.result
+    visitable a.legs.now a.v a.n a.prices a.plan.now a.regions.now c.requires.arrangeable.0 (frame (goal.at.visit-found-requires c).After-fill-own) (framing (goal.at.visit-found-requires c).After-fill-own) c.table_ways-ways.result c.table_ways-ways.ensures
+    c.new-kept.result (c.new-kept.ensures.word ∙ c.fill-own.ensures.value) (c.new-kept.ensures.placed ∙ c.placed.ensures) c.new-kept.ensures.uncalled a.cost c.requires.cost_value.0 c.others_of-others.result c.gaps-p.result c.drained.result
     c.gaps-p.ensures c.drained.ensures c.others_of-others.ensures
 
 pub plan_of-requires : goal.plan_of-requires
@@ -47,8 +43,7 @@ plan_of-requires c =
 pub returns : goal.returns
 returns c =
     let a = c.args in
-    let e : 1 + c.gaps-p.result ≡ 2 + (gap_count (frame (goal.at.returns c).After-fill-own) - 1) = omega (arith, c.gaps-p.ensures, (framing (goal.at.returns c).After-fill-own).framed.some) in
-    visited-arranged a.legs.now a.v a.n a.prices a.plan.now a.regions.now c.requires.arrangeable.0 (frame (goal.at.returns c).After-fill-own) (framing (goal.at.returns c).After-fill-own) (ways (goal.at.returns c).After-table_ways) c.table_ways.ensures
-    c.fill-own.result c.fill-own.ensures.value c.placed.result c.placed.ensures a.cost c.requires.cost_value.0 c.others_of-others.result c.gaps-p.result c.drained.result
+    visited-arranged a.legs.now a.v a.n a.prices a.plan.now a.regions.now c.requires.arrangeable.0 (frame (goal.at.returns c).After-fill-own) (framing (goal.at.returns c).After-fill-own) c.table_ways-ways.result c.table_ways-ways.ensures
+    c.new-kept.result (c.new-kept.ensures.word ∙ c.fill-own.ensures.value) (c.new-kept.ensures.placed ∙ c.placed.ensures) c.new-kept.ensures.uncalled a.cost c.requires.cost_value.0 c.others_of-others.result c.gaps-p.result c.drained.result
     c.gaps-p.ensures c.drained.ensures c.others_of-others.ensures c.visit-found.new.kept c.visit-found.result c.visit-found.ensures _ c.plan_of.ensures _ refl refl
-    (ap (λ (i : ℕ). get_or c.visit-found.new.kept i 0) e)
+    (ap (λ (g : ℕ). get_or c.visit-found.new.kept.calls (g - 1) 0) c.gaps-p.ensures)

@@ -1,3 +1,4 @@
+use native.Mathlib.Omega.{arith}
 use Rattle.rebuild_arrange.proofs.Others.{adding-none, adding-more, adding-all}
 use Rattle.rebuild_arrange.proofs.others_of.Goals as goal
 
@@ -13,4 +14,4 @@ loop-q-preserved c =
 pub returns : goal.returns
 returns c =
     let l = c.loop-q in
-    adding-all c.args.ways.now c.args.p c.args.m c.args.prices c.requires l.q l.sum l.invariant c.loop-q-test.false
+    adding-all c.args.ways.now c.args.p c.args.m c.args.prices c.requires l.q l.sum l.invariant (omega arith)

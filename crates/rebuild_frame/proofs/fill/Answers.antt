@@ -1,18 +1,26 @@
--- The lists that are put into the frame and the counts make it the frame of the plan and its regions.
-use mathlib.Core.Path.{◌∙◌}
-use Rattle.rebuild_frame.proofs.Filled.{framing, small-whole}
+-- The lists that are copied into the frame and the counts make it the frame of the plan and its regions.
+use mathlib.Core.Path.{refl, ap, ◌∙◌}
+use mathlib.Core.List.{◌++◌}
+use lib.ListN.{length, drop, replicate}
+use Rattle.rebuild_words.specs.Gaps.{no_region}
+use Rattle.rebuild_frame.proofs.Filled.{Parts, framing, small-parts}
 use Rattle.rebuild_frame.proofs.fill.Goals as goal
 
 pub returns : goal.returns
 returns c =
     let a = c.args in
     let l = c.list_stops-listed in
-    let two = c.paste-2 in
-    let one = c.paste in
-    let p = c.size.ensures.digits ∙ c.placed_set.ensures.size in record {
-      framing = framing a.frame.now c.requires.frame_len.0 a.plan.now a.v a.n a.regions.now c.requires.gapped.0 c.requires.gapped.2 one.new.to two.new.to l.new.frame
-          one.ensures.to_after two.ensures.to_after l.ensures.holds c.size.result l.result.count p l.ensures.number c.requires.gapped.1;
+    let K : Parts a.plan.now a.v a.n a.regions.now _ = record {
+      gaps = refl;
+      routes = refl;
+      total = refl;
+      on_routes = c.size.ensures.digits ∙ c.placed_set.ensures.size;
+      off_routes = l.ensures.number;
+      spans = ap (λ xs. xs ++ drop (length a.regions.now) (replicate 3 no_region)) c.copy_from_slice.ensures.after;
+      lent = ap (λ xs. xs ++ drop (length a.plan.now) (replicate 80 0)) c.copy_from_slice-2.ensures.after;
+      listed = l.ensures.holds;
+    } in record {
+      framing = framing a.plan.now a.v a.n a.regions.now c.requires.0 c.requires.2 _ K c.requires.1;
       value = l.ensures.says;
-      stops_small = small-whole a.frame.now c.requires.frame_len.0 a.plan.now a.v a.n a.regions.now c.requires.gapped.0 c.requires.gapped.2 one.new.to two.new.to
-          l.new.frame one.ensures.to_after two.ensures.to_after l.ensures.holds c.size.result l.result.count p l.ensures.number c.requires.frame_len.1;
+      stops_small = small-parts a.plan.now a.v a.n a.regions.now c.requires.0 c.requires.2 _ K;
     }

@@ -1,11 +1,6 @@
--- The first i stops of the part are listed.
-use Prim.Native.Nat.{◌-◌}
-use lib.ListN.{length}
+-- The stops of the part so far are listed.
 use Rattle.rebuild_frame.proofs.Listing.{Listing}
 use Rattle.rebuild_frame.proofs.list_gap.Given as goal
 
-abbrev pub invariant-loop-i : goal.invariant-loop-i
-invariant-loop-i l = Listing l.initial.frame l.part l.initial.count l.initial.word l.i l.frame l.count l.word
-
-abbrev pub decreases-loop-i : goal.decreases-loop-i
-decreases-loop-i l = length l.part - l.i
+abbrev pub invariant-loop-stop : goal.invariant-loop-stop
+invariant-loop-stop l = Listing l.initial.stops l.part l.initial.count l.initial.word l.stop-index l.stops l.count l.word

@@ -1,10 +1,6 @@
-use Prim.Native.Nat.{◌-◌}
 use Rattle.model.specs.Plan.{decode}
-use Rattle.rebuild_regions.proofs.Reading.{Written}
+use Rattle.rebuild_regions.proofs.Around.{Written}
 use Rattle.rebuild_regions.proofs.regions_of.Given as goal
 
 abbrev pub invariant-loop-i : goal.invariant-loop-i
 invariant-loop-i l = Written (decode l.v l.plan) l.size l.kept l.p l.initial.out l.out l.i
-
-abbrev pub decreases-loop-i : goal.decreases-loop-i
-decreases-loop-i l = l.p - l.i

@@ -1,11 +1,6 @@
--- The stops up to i are passed.
-use Prim.Native.Nat.{◌-◌}
-use lib.ListN.{length}
+-- The stops so far are passed.
 use Rattle.rebuild_survey.proofs.Ways.{Going}
 use Rattle.rebuild_survey.proofs.along.Given as goal
 
-abbrev pub invariant-loop-i : goal.invariant-loop-i
-invariant-loop-i l = Going l.legs l.from l.part l.i l.sum l.last
-
-abbrev pub decreases-loop-i : goal.decreases-loop-i
-decreases-loop-i l = length l.part - l.i
+abbrev pub invariant-loop-stop : goal.invariant-loop-stop
+invariant-loop-stop l = Going l.legs l.from l.part l.stop-index l.sum l.last

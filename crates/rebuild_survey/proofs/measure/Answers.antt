@@ -27,7 +27,7 @@ returns-then-to-route c =
     c.requires.leg_table.1 c.if-to-route.true _ refl refl refl refl
 
 pub overflow_cast-first : goal.overflow_cast-first
-overflow_cast-first c = omega (arith, c.shared_slice_known-3-1.given c.args.to)
+overflow_cast-first c = omega arith
 
 pub along-rest-requires : goal.along-rest-requires
 along-rest-requires c = (

@@ -1,4 +1,4 @@
-use Rattle.std.proofs.Common.{length, ℕ, pos_of_ne-zero, arith}
+use Rattle.std.proofs.Common.{ℕ, pos_of_ne-zero, arith}
 use Rattle.rebuild_tables.proofs.Weights.{len_whole, closed-short, step_small}
 use Rattle.rebuild_tables.proofs.Steps.{Opened, gap-low, word_below, count-below, looping-start, looping-end, in_left, turn_small, fewer-less, rest-less}
 use Rattle.rebuild_walk.proofs.Counted.{next-call, next-opened, met-asked, met-opened, stop-call, stop-again}
@@ -15,7 +15,7 @@ opened t c =
     ]
 
 pub closed-requires : goal.closed-requires
-closed-requires t c = record { wholly = (c.requires.tabled.whole, c.requires.tabled.prices, omega (arith, gap-low c.args.ways.now c.args.frame.now c.args.kept.now c.args.q c.args.left c.args.word c.args.length c.args.others c.args.best c.requires), omega arith); whole = (len_whole c.args.ways.now c.args.frame.now c.requires.tabled c.args.q c.args.left c.args.word c.args.length c.args.others c.requires.here, closed-short c.args.ways.now c.args.frame.now c.requires.tabled c.args.q c.args.left c.args.word c.args.length c.args.others c.requires.here) }
+closed-requires t c = record { wholly = (c.requires.tabled.prices, omega (arith, gap-low c.args.ways.now c.args.frame.now c.args.kept.now c.args.q c.args.left c.args.word c.args.length c.args.others c.args.best c.requires), omega arith); whole = (len_whole c.args.ways.now c.args.frame.now c.requires.tabled c.args.q c.args.left c.args.word c.args.length c.args.others c.requires.here, closed-short c.args.ways.now c.args.frame.now c.requires.tabled c.args.q c.args.left c.args.word c.args.length c.args.others c.requires.here) }
 
 pub count_call-requires : goal.count_call-requires
 count_call-requires t c = (gap-low c.args.ways.now c.args.frame.now c.args.kept.now c.args.q c.args.left c.args.word c.args.length c.args.others c.args.best c.requires, count-below c.args.ways.now c.args.frame.now c.args.kept.now c.args.q c.args.left c.args.word c.args.length c.args.others c.args.best c.requires)
@@ -30,10 +30,10 @@ pub with_digit-opened-requires : goal.with_digit-opened-requires
 with_digit-opened-requires t c = (word_below c.args.ways.now c.args.frame.now c.args.kept.now c.args.q c.args.left c.args.word c.args.length c.args.others c.args.best c.requires, omega (arith, gap-low c.args.ways.now c.args.frame.now c.args.kept.now c.args.q c.args.left c.args.word c.args.length c.args.others c.args.best c.requires))
 
 pub own-own-requires : goal.own-own-requires
-own-own-requires t c = (c.requires.tabled.whole, omega (arith, gap-low c.args.ways.now c.args.frame.now c.args.kept.now c.args.q c.args.left c.args.word c.args.length c.args.others c.args.best c.requires))
+own-own-requires t c = omega (arith, gap-low c.args.ways.now c.args.frame.now c.args.kept.now c.args.q c.args.left c.args.word c.args.length c.args.others c.args.best c.requires)
 
 pub vacant-requires : goal.vacant-requires
-vacant-requires t c = (c.requires.tabled.whole, omega (arith, gap-low c.args.ways.now c.args.frame.now c.args.kept.now c.args.q c.args.left c.args.word c.args.length c.args.others c.args.best c.requires))
+vacant-requires t c = omega (arith, gap-low c.args.ways.now c.args.frame.now c.args.kept.now c.args.q c.args.left c.args.word c.args.length c.args.others c.args.best c.requires)
 
 pub walk-found-requires : goal.walk-found-requires
 walk-found-requires t c = (
@@ -44,9 +44,6 @@ walk-found-requires t c = (
 
 pub meet-found-requires : goal.meet-found-requires
 meet-found-requires t c = met-asked c.args.ways.now c.args.frame.now c.args.kept.now c.args.q c.args.left c.args.word c.args.length c.args.others c.args.best c.requires _ c.count_call.ensures c.closed.result c.closed.ensures c.gaps.result c.gaps.ensures c.if-r-gaps.false
-
-pub missed-requires : goal.missed-requires
-missed-requires t c = c.requires.tabled.whole
 
 pub loop-next-init : goal.loop-next-init
 loop-next-init t c = looping-start c.args.ways.now c.args.frame.now c.args.kept.now c.args.q c.args.left c.args.word c.args.length c.args.others c.args.best c.requires c.if-r-gaps.kept c.if-r-gaps.found (opened t (goal.at.loop-next-init t c).Joined-r-gaps)
@@ -71,7 +68,6 @@ overflow_cast-s-in-loop-next t c = omega (arith, c.lowest-s.ensures.small)
 
 pub step-gone-requires : goal.step-gone-requires
 step-gone-requires t c = (
-  c.requires.tabled.whole,
   omega arith,
   omega (arith, turn_small c.args.ways.now c.args.frame.now c.args.kept.now c.args.q c.args.left c.args.word c.args.length c.args.others c.args.best c.requires c.if-r-gaps.kept c.if-r-gaps.found (opened t (goal.at.step-gone-requires t c).Joined-r-gaps) c.loop-next.kept c.loop-next.found c.loop-next.next c.loop-next.invariant c.lowest-s.result c.without-next.result c.without-fewer.result c.lowest-s.ensures c.without-next.ensures c.without-fewer.ensures),
   len_whole c.args.ways.now c.args.frame.now c.requires.tabled c.args.q c.args.left c.args.word c.args.length c.args.others c.requires.here,

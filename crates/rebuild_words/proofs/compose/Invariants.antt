@@ -1,17 +1,13 @@
 -- The routes up to i are written, and end at `at`; route i of the plan begins at `start`.
-use Prim.Native.Nat.{◌+◌, ◌-◌}
+use Prim.Native.Nat.{◌+◌}
 use mathlib.Core.Path.{◌≡◌}
 use lib.ListN.{take}
 use Rattle.model.specs.Lists.{sum}
 use Rattle.model.specs.Plan.{decode}
 use Rattle.rebuild_words.specs.Words.{plan_of}
-use Rattle.rebuild_words.specs.Gaps.{regions_of}
 use Rattle.rebuild_words.proofs.Composed.{Written}
 use Rattle.rebuild_words.proofs.compose.Given as goal
 
 abbrev pub invariant-loop-i : goal.invariant-loop-i
 invariant-loop-i l =
-    (l.start ≡ l.v + sum (take l.i l.plan)) × Written l.v l.n (plan_of (decode l.v l.plan) (regions_of l.regions) l.word) l.i l.at l.to
-
-abbrev pub decreases-loop-i : goal.decreases-loop-i
-decreases-loop-i l = l.v - l.i
+    (l.start ≡ l.v + sum (take l.i l.plan)) × Written l.v l.n (plan_of (decode l.v l.plan) l.regions l.word) l.i l.at l.to

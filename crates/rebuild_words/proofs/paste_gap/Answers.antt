@@ -6,14 +6,14 @@ use Rattle.rebuild_words.proofs.paste_gap.Goals as goal
 use Rattle.rebuild_words.proofs.paste_gap.Goals.{Then-c-gap, then-c-gap, else-c-gap}
 
 -- there is room for a stop of the gap
-room : (c : Then-c-gap) → c.loop-i.end < length c.loop-i.to
+room : (c : Then-c-gap) → c.loop-c.end < length c.loop-c.to
 room c =
-    let l = c.loop-i in
+    let l = c.loop-c in
     let a = c.args in
-    passed-room a.to.now a.at a.word.now a.gap l.i l.to l.end l.invariant c.loop-i-test.true c.if-c-gap.true c.requires
+    passed-room a.to.now a.at a.word.now a.gap l.c-index l.to l.end l.invariant (omega arith) c.if-c-gap.true c.requires
 
-pub loop-i-init : goal.loop-i-init
-loop-i-init c = passed_none c.args.to.now c.args.at c.args.word.now c.args.gap
+pub loop-c-init : goal.loop-c-init
+loop-c-init c = passed_none c.args.to.now c.args.at c.args.word.now c.args.gap
 
 pub offset_bounds-to-end : goal.offset_bounds-to-end
 offset_bounds-to-end c = omega (arith, room (goal.at.offset_bounds-to-end c).Then-c-gap)
@@ -24,23 +24,19 @@ bounds-to-end c = room (goal.at.bounds-to-end c).Then-c-gap
 pub overflow_add-end : goal.overflow_add-end
 overflow_add-end c = omega (arith, room (goal.at.overflow_add-end c).Then-c-gap)
 
-pub loop-i-preserved : goal.loop-i-preserved
-loop-i-preserved c =
-    let l = c.loop-i in
+pub loop-c-preserved : goal.loop-c-preserved
+loop-c-preserved c =
+    let l = c.loop-c in
     let a = c.args in
-    let h = c.loop-i-test.true in
     elim c.if-c-gap.branch [
-      | then-c-gap j ↦ passed_here a.to.now a.at a.word.now a.gap l.i l.to l.end l.invariant h j.if-c-gap.true
+      | then-c-gap j ↦ passed_here a.to.now a.at a.word.now a.gap l.c-index l.to l.end l.invariant (omega arith) j.if-c-gap.true
           c.requires c.if-c-gap.to c.if-c-gap.end j.to-is j.end-is
-      | else-c-gap j ↦ passed-other a.to.now a.at a.word.now a.gap l.i l.to l.end l.invariant h j.if-c-gap.false
+      | else-c-gap j ↦ passed-other a.to.now a.at a.word.now a.gap l.c-index l.to l.end l.invariant (omega arith) j.if-c-gap.false
           c.if-c-gap.to c.if-c-gap.end j.to-is j.end-is
     ]
 
-pub shape_of-to : goal.shape_of-to
-shape_of-to c = c.loop-i.invariant.long
-
 pub returns : goal.returns
 returns c =
-    let l = c.loop-i in
+    let l = c.loop-c in
     let a = c.args in
-    passed-all a.to.now a.at a.word.now a.gap l.i l.to l.end l.invariant c.loop-i-test.false
+    passed-all a.to.now a.at a.word.now a.gap l.c-index l.to l.end l.invariant (omega arith)

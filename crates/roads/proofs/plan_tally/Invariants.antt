@@ -1,10 +1,6 @@
-use Prim.Native.Nat.{◌-◌}
 use Rattle.roads.proofs.Plans.{Tallied}
 use Rattle.roads.proofs.plan_tally.Given as goal
 
 abbrev pub invariant-loop-k : goal.invariant-loop-k
 invariant-loop-k l =
     Tallied l.vehicles l.stops l.locations l.distances l.plan l.road l.uses l.metres l.at l.k
-
-abbrev pub decreases-loop-k : goal.decreases-loop-k
-decreases-loop-k l = l.v - l.k

@@ -4,60 +4,54 @@ use lib.ListN.{length, get_or}
 use Rattle.model.proofs.Cost.{entry-le}
 use Rattle.roads.proofs.Walks.{stop-there, next_place, walk-starts, walk-onward, walk_ends}
 use Rattle.roads.proofs.route_tally.Goals as goal
-use Rattle.roads.proofs.route_tally.Goals.{In-loop-i}
+use Rattle.roads.proofs.route_tally.Goals.{In-loop-stop}
 
 -- the location of the stop of a turn
-abbrev next : In-loop-i → ℕ
-next c = let a = c.args in get_or a.stops.now (get_or a.route.now c.loop-i.i 0) 0
+abbrev next : In-loop-stop → ℕ
+next c = let a = c.args in get_or a.stops.now (get_or a.route.now c.loop-stop.stop-index 0) 0
 
 -- that stop is one of the list
-stop-known : (c : In-loop-i)
-    → get_or c.args.route.now c.loop-i.i 0 < length c.args.stops.now
-stop-known c = stop-there _ _ _ _ _ _ c.requires c.loop-i.i c.loop-i-test.true
+stop-known : (c : In-loop-stop)
+    → get_or c.args.route.now c.loop-stop.stop-index 0 < length c.args.stops.now
+stop-known c = stop-there _ _ _ _ _ _ c.requires c.loop-stop.stop-index c.loop-stop-test.true
 
-pub loop-i-init : goal.loop-i-init
-loop-i-init c = walk-starts _ _ _ _ _ _ _ c.requires
-
-pub bounds-route-i : goal.bounds-route-i
-bounds-route-i c = c.loop-i-test.true
-
-pub overflow_cast-stop : goal.overflow_cast-stop
-overflow_cast-stop c = omega (arith, stop-known (goal.at.overflow_cast-stop c).In-loop-i)
+pub loop-stop-init : goal.loop-stop-init
+loop-stop-init c = walk-starts _ _ _ _ _ _ _ c.requires
 
 pub offset_bounds-stops-stop : goal.offset_bounds-stops-stop
-offset_bounds-stops-stop c = omega (arith, stop-known (goal.at.offset_bounds-stops-stop c).In-loop-i)
+offset_bounds-stops-stop c = omega (arith, stop-known (goal.at.offset_bounds-stops-stop c).In-loop-stop)
 
 pub bounds-stops-stop : goal.bounds-stops-stop
-bounds-stops-stop c = stop-known (goal.at.bounds-stops-stop c).In-loop-i
+bounds-stops-stop c = stop-known (goal.at.bounds-stops-stop c).In-loop-stop
 
 pub overflow_add-uses : goal.overflow_add-uses
 overflow_add-uses c =
-    omega (arith, c.one_use-uses.ensures.1, c.loop-i.invariant.few, c.requires.few)
+    omega (arith, c.one_use-uses.ensures.1, c.loop-stop.invariant.few, c.requires.few)
 
 pub lookup-metres-requires : goal.lookup-metres-requires
 lookup-metres-requires c =
-    (c.requires.table, c.loop-i.invariant.place, next_place _ _ _ _ _ _ c.requires c.loop-i.i c.loop-i-test.true)
+    (c.requires.table, c.loop-stop.invariant.place, next_place _ _ _ _ _ _ c.requires c.loop-stop.stop-index c.loop-stop-test.true)
 
 pub overflow_add-metres : goal.overflow_add-metres
 overflow_add-metres c =
-    omega (arith, c.lookup-metres.ensures, entry-le c.args.distances.now c.args.locations 200000 c.requires.short c.loop-i.here (next (goal.at.overflow_add-metres c).In-loop-i), c.loop-i.invariant.short, c.requires.few)
+    omega (arith, c.lookup-metres.ensures, entry-le c.args.distances.now c.args.locations 200000 c.requires.short c.loop-stop.here (next (goal.at.overflow_add-metres c).In-loop-stop), c.loop-stop.invariant.short, c.requires.few)
 
-pub loop-i-preserved : goal.loop-i-preserved
-loop-i-preserved c =
-    walk-onward _ _ _ _ _ _ _ c.requires _ _ _ _ c.loop-i.invariant _ _ c.loop-i-test.true c.one_use-uses.ensures.0 c.lookup-metres.ensures
+pub loop-stop-preserved : goal.loop-stop-preserved
+loop-stop-preserved c =
+    walk-onward _ _ _ _ _ _ _ c.requires _ _ _ _ c.loop-stop.invariant _ _ c.loop-stop-test.true c.one_use-uses.ensures.0 c.lookup-metres.ensures
 
 pub overflow_add-uses-2 : goal.overflow_add-uses-2
 overflow_add-uses-2 c =
-    omega (arith, c.one_use-uses-2.ensures.1, c.loop-i.invariant.few, c.requires.few)
+    omega (arith, c.one_use-uses-2.ensures.1, c.loop-stop.invariant.few, c.requires.few)
 
 pub lookup-metres-requires-2 : goal.lookup-metres-requires-2
 lookup-metres-requires-2 c =
-    (c.requires.table, c.loop-i.invariant.place, c.requires.ends)
+    (c.requires.table, c.loop-stop.invariant.place, c.requires.ends)
 
 pub overflow_add-metres-2 : goal.overflow_add-metres-2
 overflow_add-metres-2 c =
-    omega (arith, c.lookup-metres-2.ensures, entry-le c.args.distances.now c.args.locations 200000 c.requires.short c.loop-i.here c.args.end, c.loop-i.invariant.short, c.requires.few)
+    omega (arith, c.lookup-metres-2.ensures, entry-le c.args.distances.now c.args.locations 200000 c.requires.short c.loop-stop.here c.args.end, c.loop-stop.invariant.short, c.requires.few)
 
 pub returns : goal.returns
 returns c =
-    walk_ends _ _ _ _ _ _ _ c.requires _ _ _ _ c.loop-i.invariant _ _ c.loop-i-test.false c.one_use-uses-2.ensures.0 c.lookup-metres-2.ensures
+    walk_ends _ _ _ _ _ _ _ c.requires _ _ _ _ c.loop-stop.invariant _ _ c.loop-stop-test.false c.one_use-uses-2.ensures.0 c.lookup-metres-2.ensures

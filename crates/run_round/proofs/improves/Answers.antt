@@ -1,10 +1,10 @@
-use mathlib.Core.Bool.{true, false}
-use native.Mathlib.Omega.{arith}
-use Rattle.run_round.proofs.Steps.{improves-one}
+use mathlib.Core.Path.{refl, ◌∙◌}
+use lib.Ieee.{lt}
+use Rattle.run_round.proofs.Steps.{number_of, improves-one}
 use Rattle.run_round.proofs.improves.Goals as goal
 
-pub returns-then-new-old : goal.returns-then-new-old
-returns-then-new-old c = (omega arith, λ m k M K p q. improves-one true _ _ m k c.if-new-old.true M K p q)
-
 pub returns : goal.returns
-returns c = (omega arith, λ m k M K p q. improves-one false _ _ m k c.if-new-old.false M K p q)
+returns c =
+    let improves = lt c.args.new c.args.old in
+    let one = number_of improves in
+    (rw c.from.ensures one.1, λ m k M K p q. c.from.ensures ∙ one.0 ∙ improves-one improves _ _ m k refl M K p q)

@@ -26,5 +26,5 @@ returns c =
     let k = c.least_of_plan-best in
     let a = c.args in
     let parts = left (the-pair c.requires.ready c.requires.on_two_routes) a.legs.now a.prices k.result.code c.write_candidate.new.plan k.ensures
-    (copy_written c.write_candidate.new.plan a.v a.n a.plan.now (take c.paste-m.result c.paste-m.new.to) a.a a.s a.b a.t k.result.code
+    (copy_written c.write_candidate.new.plan a.v a.n a.plan.now (take c.paste-m.result c.paste-m.new.to) a.first.vehicle a.first.stop a.second.vehicle a.second.stop k.result.code
     (copy (goal.at.returns c).After-paste-m).is c.write_candidate.ensures) in record { plan_after = parts.0; lent = parts.1 }

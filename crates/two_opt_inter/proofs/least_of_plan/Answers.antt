@@ -9,5 +9,5 @@ least_pair-requires c =
 pub returns : goal.returns
 returns c =
     let a = c.args in
-    pair_found a.legs.now a.prices (decode a.v a.plan.now) a.a a.s a.b a.t c.route-ra.result.now c.route-rb.result.now
+    pair_found a.legs.now a.prices (decode a.v a.plan.now) a.first.vehicle a.first.stop a.second.vehicle a.second.stop c.route-ra.result.now c.route-rb.result.now
     c.least_pair.result c.least_pair.ensures c.route-ra.ensures c.route-rb.ensures

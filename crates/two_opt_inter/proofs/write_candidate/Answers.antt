@@ -50,5 +50,5 @@ write_pair-requires c = (
 pub returns : goal.returns
 returns c =
     let a = c.args in
-    turned-written c.write_pair.new.plan a.n (decode a.v a.old.now) a.a a.s a.b a.t a.code
+    turned-written c.write_pair.new.plan a.n (decode a.v a.old.now) a.first.vehicle a.first.stop a.second.vehicle a.second.stop a.code
     c.route-ra.ensures c.route-rb.ensures (first-row (goal.at.returns c).After-write_turned).is (second-row (goal.at.returns c).After-write_turned-2).is c.position-i.ensures c.position-j.ensures c.write_pair.ensures

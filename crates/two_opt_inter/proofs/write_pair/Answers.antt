@@ -9,26 +9,26 @@ use Rattle.two_opt_inter.proofs.write_pair.Goals as goal
 use Rattle.two_opt_inter.proofs.write_pair.Goals.{After-choice_of-c, After-write_joined-p, After-write_joined-q}
 
 -- the cuts are there
-cuts : (c : After-choice_of-c) → (let a = c.args in (c.choice_of-c.result.first ≤ length a.ra.now) × (c.choice_of-c.result.second ≤ length a.rb.now))
+cuts : (c : After-choice_of-c) → (let a = c.args in (c.choice_of-c.result.first ≤ length a.ra.stops.now) × (c.choice_of-c.result.second ≤ length a.rb.stops.now))
 cuts c =
-    let k = choice-cuts c.args.code c.args.i c.args.j c.choice_of-c.result c.choice_of-c.ensures in
+    let k = choice-cuts c.args.code c.args.ra.at c.args.rb.at c.choice_of-c.result c.choice_of-c.ensures in
     (omega (arith, c.requires.1.first_at), omega (arith, c.requires.1.second_at))
 
 -- the two new routes
 new-first : (c : After-write_joined-p)
-    → (let a = c.args in Front c.write_joined-p.new.row c.write_joined-p.result (pair_of a.ra.now a.i a.rb.now a.j a.code).0)
+    → (let a = c.args in Front c.write_joined-p.new.row c.write_joined-p.result (pair_of a.ra.stops.now a.ra.at a.rb.stops.now a.rb.at a.code).0)
 new-first c =
     let w = c.write_joined-p in
     let a = c.args in
-    front-first w.new.row w.result a.ra.now a.i a.rb.now a.j a.code c.choice_of-c.ensures
+    front-first w.new.row w.result a.ra.stops.now a.ra.at a.rb.stops.now a.rb.at a.code c.choice_of-c.ensures
     (front _ w.new.row _ w.result w.ensures.row_after w.ensures.value)
 
 new-second : (c : After-write_joined-q)
-    → (let a = c.args in Front c.write_joined-q.new.row c.write_joined-q.result (pair_of a.ra.now a.i a.rb.now a.j a.code).1)
+    → (let a = c.args in Front c.write_joined-q.new.row c.write_joined-q.result (pair_of a.ra.stops.now a.ra.at a.rb.stops.now a.rb.at a.code).1)
 new-second c =
     let w = c.write_joined-q in
     let a = c.args in
-    front-second w.new.row w.result a.ra.now a.i a.rb.now a.j a.code c.choice_of-c.ensures
+    front-second w.new.row w.result a.ra.stops.now a.ra.at a.rb.stops.now a.rb.at a.code c.choice_of-c.ensures
     (front _ w.new.row _ w.result w.ensures.row_after w.ensures.value)
 
 pub choice_of-c-requires : goal.choice_of-c-requires

@@ -1,10 +1,10 @@
-use mathlib.Core.Path.{◌∙◌}
+use mathlib.Core.Path.{ap, ◌∙◌}
 use mathlib.Core.Bool.{true, false}
 use Rattle.model.specs.TwoOpt.{ends_exchanged, inverted}
 use lib.ListN.{replicate}
-use Rattle.two_opt_intra.proofs.Choice.{first_alike, second_alike, Front, front, weighable-front, weighs-front, pasted, Weights, chosen}
+use Rattle.two_opt_intra.proofs.Choice.{first_alike, second_alike, Front, front, weighable-front, weighs-front, Weights, chosen}
 use Rattle.two_opt_intra.proofs.reorder.Goals as goal
-use Rattle.two_opt_intra.proofs.reorder.Goals.{After-second-2-1, After-weigh-old}
+use Rattle.two_opt_intra.proofs.reorder.Goals.{After-second-2-1, After-weigh-old, then-b-a, else-b-a}
 
 -- the candidates stand at the front of their arrays
 first : (c : After-second-2-1) → let a = c.args in
@@ -38,16 +38,21 @@ weigh-a-requires c = weighable-front (first (goal.at.weigh-a-requires c).After-s
 pub weigh-b-requires : goal.weigh-b-requires
 weigh-b-requires c = weighable-front (second (goal.at.weigh-b-requires c).After-second-2-1) c.requires.weighable
 
-pub returns-then-old-b : goal.returns-then-old-b
-returns-then-old-b c = chosen (weights (goal.at.returns-then-old-b c).After-weigh-old) true true c.if-b-a.true c.if-old-b.true
-
-pub returns-then-b-a : goal.returns-then-b-a
-returns-then-b-a c =
-    pasted (second (goal.at.returns-then-b-a c).After-second-2-1) _ c.paste.ensures.to_after ∙ chosen (weights (goal.at.returns-then-b-a c).After-weigh-old) true false c.if-b-a.true c.if-old-b.false
-
-pub returns-then-old-a : goal.returns-then-old-a
-returns-then-old-a c = chosen (weights (goal.at.returns-then-old-a c).After-weigh-old) false true c.if-b-a.false c.if-old-a.true
+pub returns-then-old-cost : goal.returns-then-old-cost
+returns-then-old-cost c =
+    let W = weights (goal.at.returns-then-old-cost c).After-weigh-old in
+    elim c.if-b-a.branch [
+      | then-b-a w ↦ chosen W true true w.if-b-a.true (rw (ap (λ x. x.1) w.cost-is) at c.if-old-cost.true)
+      | else-b-a w ↦ chosen W false true w.if-b-a.false (rw (ap (λ x. x.1) w.cost-is) at c.if-old-cost.true)
+    ]
 
 pub returns : goal.returns
 returns c =
-    pasted (first (goal.at.returns c).After-second-2-1) _ c.paste-2.ensures.to_after ∙ chosen (weights (goal.at.returns c).After-weigh-old) false false c.if-b-a.false c.if-old-a.false
+    let W = weights (goal.at.returns c).After-weigh-old in
+    let e = c.copy_from_slice.ensures.after in
+    elim c.if-b-a.branch [
+      | then-b-a w ↦ e ∙ ap (λ x. x.0.now) w.cost-is ∙ (second (goal.at.returns c).After-second-2-1).stands
+          ∙ chosen W true false w.if-b-a.true (rw (ap (λ x. x.1) w.cost-is) at c.if-old-cost.false)
+      | else-b-a w ↦ e ∙ ap (λ x. x.0.now) w.cost-is ∙ (first (goal.at.returns c).After-second-2-1).stands
+          ∙ chosen W false false w.if-b-a.false (rw (ap (λ x. x.1) w.cost-is) at c.if-old-cost.false)
+    ]

@@ -1,10 +1,6 @@
 -- `view::see_lengths`: the lengths of the routes that are passed are written.
-use Prim.Native.Nat.{◌-◌}
 use Rattle.view.proofs.Seeing.{Lengths}
 use Rattle.view.proofs.see_lengths.Given as goal
 
 abbrev pub invariant-loop-k : goal.invariant-loop-k
 invariant-loop-k l = Lengths l.v l.plan l.vans l.k l.lengths
-
-abbrev pub decreases-loop-k : goal.decreases-loop-k
-decreases-loop-k l = l.v - l.k

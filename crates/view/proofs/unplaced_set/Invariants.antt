@@ -7,6 +7,3 @@ use Rattle.view.proofs.unplaced_set.Given as goal
 
 abbrev pub invariant-loop-s : goal.invariant-loop-s
 invariant-loop-s l = (l.s ≤ l.n) × (l.set ≡ set_from (decode l.v l.plan) l.n l.s)
-
-abbrev pub decreases-loop-s : goal.decreases-loop-s
-decreases-loop-s l = l.s
