@@ -11,7 +11,7 @@ use model::Refusal;
 use sheet_printing::Printed;
 
 // The line of a refusal.
-fn print_refused(refusal: Refusal, out: &mut [u8]) -> usize
+pub fn print_refused(refusal: Refusal, out: &mut [u8]) -> usize
     requires { 21 ≤ length out.old }
     ensures { Prints out.old out.new result (printed_refusal (number_of refusal)) }
 {
