@@ -26,7 +26,7 @@ use Rattle.sheet_answer.specs.declared.SheetRead.TheVariants as R
 use Rattle.sheet_head.specs.Form.{has_given, least_given, most_given, has_plan, head_of, ListFor, longest_plan}
 use Rattle.sheet_answer.specs.Sheets.{Sheet, sheet_of, ReadableSheet, SheetAt, printed_sheet}
 use Rattle.sheet_head.specs.Reading.{HeadOf, HeadHolds, HeadAt}
-use Rattle.sheet_answer.specs.Running.{plan_length, HoldsSheet, ReadySheet, SheetPrints, Answered, AnswersSheet}
+use Rattle.sheet_answer.specs.Running.{plan_length, HoldsSheet, ReadySheet, SheetPrints, AnswersSheet}
 use Rattle.sheet_head.proofs.Lines.{few-given, SameHead, same_head, head-length, plan-shown, plan-known}
 
 -- ---- the parts of a sheet

@@ -3,7 +3,7 @@ use Rattle.std.proofs.Common.{◌≡◌, ◌+◌, ◌*◌, ◌≤◌, length}
 use Rattle.calls.proofs.Turns.{Past}
 use Rattle.calls.proofs.answer_all.Given as goal
 
-abbrev pub invariant-loop-_turn : goal.invariant-loop-_turn
-invariant-loop-_turn g l =
+abbrev pub invariant-loop-turn : goal.invariant-loop-turn
+invariant-loop-turn g l =
     Past l.start l.stop l.initial.bytes l.bytes l.at l.end l.printed × (l.at ≤ l.end) × (l.end ≤ length l.bytes)
     × (length l.bytes ≡ length l.initial.bytes) × (length l.out ≡ length l.initial.out) × (l.printed ≤ 1446 * l._turn)

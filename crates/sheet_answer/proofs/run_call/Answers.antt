@@ -1,4 +1,4 @@
-use Rattle.std.proofs.Common.{[], refl, sym, ap, arith, ◌∙◌}
+use Rattle.std.proofs.Common.{[], refl, sym, ap, arith}
 use Rattle.sheet_head.specs.Numbered.{number_of_call}
 use Rattle.file_job.proofs.Held.{take-replicate}
 use Rattle.sheet_answer.proofs.Ran.{ran-weigh, ran-start, ran-two-opt, ran-rebuild, ran-exhaustive, ran-pruned, ran-solve, ran-arrive, ran-cancel, ran-view, ran_move, ran-roadworks}
