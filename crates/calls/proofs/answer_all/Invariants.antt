@@ -1,5 +1,5 @@
 -- Each turn prints at most 1,446 bytes, so that their sum is a machine number.
-use Rattle.std.proofs.Common.{◌≡◌, ◌+◌, ◌*◌, ◌≤◌, length}
+use Rattle.std.proofs.Common.{◌≡◌, ◌*◌, ◌≤◌, length}
 use Rattle.calls.proofs.Turns.{Past}
 use Rattle.calls.proofs.answer_all.Given as goal
 
