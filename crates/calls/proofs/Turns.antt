@@ -8,15 +8,13 @@ use lib.Seq.{take_all, take-take, take-nil, drop-drop, length-take-le}
 use Rattle.model.specs.Lists.{part, for_each}
 use Rattle.model.specs.File.{Stands}
 use Rattle.model.proofs.Pieces.{for_each-append}
-use Rattle.file_input.specs.declared.Filled.{Filled}
-use Rattle.file_input.specs.declared.Filled.TheVariants as F
+use Rattle.std.specs.Prelude.{Option, Some, Result, Ok}
+use Rattle.std.specs.declared.io.Error.{Error}
 use Rattle.file_input.specs.Filling.{Refilled}
 use Rattle.sheet_answer.specs.Sheets.{Sheet, sheet_of, ReadableSheet, longest_sheet, sheets_of, ReadableSheets, printed_sheets}
 use Rattle.sheet_answer.specs.declared.SheetRead.{SheetRead}
 use Rattle.sheet_answer.specs.declared.SheetRead.TheVariants as R
 use Rattle.sheet_answer.specs.Running.{Answered, NoSheet, AnswersSheet}
-use Rattle.calls.specs.declared.Left.{Left}
-use Rattle.calls.specs.declared.Left.TheVariants as L
 use Rattle.calls.specs.declared.Outcome.{Outcome}
 use Rattle.calls.specs.declared.Outcome.TheVariants as T
 use Rattle.calls.specs.declared.Ended.TheVariants as E
@@ -44,10 +42,10 @@ unmoved at end old l w u =
     }
 
 -- a full buffer that was read on
-pub read-on : (at end n : ℕ) (old new : List ℕ) (a : Filled) → Refilled at old new a → a ≡ F.Bytes n → at ≤ end → end ≡ length old
+pub read-on : (at end n : ℕ) (old new : List ℕ) (a : Result ℕ Error) → Refilled at old new a → a ≡ Ok n → at ≤ end → end ≡ length old
     → longest_sheet ≤ length old → Still at end old new 0 n
 read-on at end n old new a f e l w big =
-    let k : Refilled at old new (F.Bytes n) = rw e at f in
+    let k : Refilled at old new (Ok n) = rw e at f in
     let z : n - 0 ≡ n = omega arith in
     let front : take (end - at) (take n new) ≡ part at end old =
     take-take (end - at) n new (omega (arith, k.0)) ∙ rw w (k.2 ∙ sym (take_all (length old - at) (drop at old) (omega (arith, length-drop at old)))) in
@@ -62,7 +60,7 @@ read-on at end n old new a f e l w big =
 
 -- ---- one turn
 
-module _ (at end : ℕ) (old new : List ℕ) (a : Left) (k : Keeps at end old new a) (from to : ℕ) (e : a ≡ L.Bytes from to) where
+module _ (at end : ℕ) (old new : List ℕ) (a : Option (ℕ × ℕ)) (k : Keeps at end old new a) (from to : ℕ) (e : a ≡ Some (from, to)) where
   pub still : Still at end old new from to
   still = rw e at k
 

@@ -1,11 +1,9 @@
 -- What is left to answer in a buffer, and what was answered.
-use Rattle.std.specs.Prelude.{◌≡◌, ℕ, ◌-◌, ◌≤◌, ◌<◌, List, [], ◌++◌, length, take}
+use Rattle.std.specs.Prelude.{◌≡◌, ℕ, ◌-◌, ◌≤◌, ◌<◌, List, [], ◌++◌, length, take, Option, Some, None}
 use Rattle.model.specs.Lists.{part}
 use Rattle.model.specs.File.{printed_refusal}
 use Rattle.sheet_answer.specs.Sheets.{Sheet, SheetAt, longest_sheet, sheets_of, ReadableSheets, printed_sheets}
 use Rattle.sheet_answer.specs.Running.{Answered, NoSheet}
-use Rattle.calls.specs.declared.Left.{Left}
-use Rattle.calls.specs.declared.Left.TheVariants as L
 use Rattle.calls.specs.declared.Outcome.{Outcome}
 use Rattle.calls.specs.declared.Outcome.TheVariants as T
 use Rattle.calls.specs.declared.Ended.{Ended}
@@ -27,9 +25,9 @@ pub record Still (at end : ℕ) (old new : List ℕ) (from to : ℕ) : Type 0 wh
   pub unread : end < length old → (new ≡ old) × (from ≡ at) × (to ≡ end) × (more ≡ [])
   pub uncut : to ≡ length old → longest_sheet ≤ to - from
 
-abbrev pub Keeps : ℕ → ℕ → List ℕ → List ℕ → Left → Type 0
-Keeps at end old new (L.Bytes from to) = Still at end old new from to
-Keeps at end old new L.Nothing = Unit {0}
+abbrev pub Keeps : ℕ → ℕ → List ℕ → List ℕ → Option (ℕ × ℕ) → Type 0
+Keeps at end old new (Some p) = Still at end old new p.0 p.1
+Keeps at end old new None = Unit {0}
 
 -- One turn. The one sheet that stands where the bytes that are left begin is answered, and what is left begins where it ends; where none stands there, 14 is
 -- answered; or no bytes are left.

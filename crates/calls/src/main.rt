@@ -5,22 +5,14 @@ ghost use Rattle.std.specs.Prelude.{◌≡◌, ◌≤◌, length};
 ghost use Rattle.sheet_lines.specs.Printed.{most_for_sheet};
 ghost use Rattle.calls.specs.Rest.{Ready, Keeps, Turned, AnswersAll};
 
-use file_input::Filled;
 use sheet_answer::SheetRead;
 use std::io::{Read, Write};
 
 // The most bytes that a sheet has: 15, 113, 1,345, and 106,592 of its job file. Where so many are left, nothing after them matters.
 const LONGEST: usize = 108065;
 
-// Where the bytes that are left to answer begin and end in the buffer; or that reading failed.
-#[derive(Clone, Copy)]
-enum Left {
-    Bytes(usize, usize),
-    Nothing,
-}
-
 // A sheet was answered: where the bytes that are left begin and end, and how many bytes are printed. Or none stands there, and so many
-// bytes are printed; or no bytes are left; or reading failed.
+// bytes are printed; or no bytes are left; or reading failed. Four ends of a turn, which neither Option nor Result tells apart.
 #[derive(Clone, Copy)]
 enum Outcome {
     Answered(usize, usize, usize),
@@ -30,6 +22,7 @@ enum Outcome {
 }
 
 // How many bytes were printed: all sheets were answered, or those up to a place where none stands; or reading or writing failed.
+// The first two both say how much was printed, so that they are no Ok and Err.
 #[derive(Clone, Copy)]
 enum Ended {
     All(u64),
@@ -37,28 +30,29 @@ enum Ended {
     Failed,
 }
 
-// Reads on where fewer bytes are left than a sheet may have. A buffer that is not full holds the end of the input.
+// Reads on where fewer bytes are left than a sheet may have: where the bytes that are left begin and end in the buffer then, or none
+// where reading failed. A buffer that is not full holds the end of the input.
 fn more<R: Read, E: Eprint>(
     input: &mut R,
     errors: &E,
     bytes: &mut [u8],
     at: usize,
     end: usize,
-) -> Left
+) -> Option<(usize, usize)>
     requires { Ready at end bytes.old }
     ensures { Keeps at end bytes.old bytes.new result }
 {
     if end < bytes.len() {
-        return Left::Bytes(at, end);
+        return Some((at, end));
     }
     if LONGEST <= end - at {
-        return Left::Bytes(at, end);
+        return Some((at, end));
     }
     match file_input::refill(input, bytes, at) {
-        Filled::Bytes(n) => Left::Bytes(0, n),
-        Filled::Failed(error) => {
+        Ok(n) => Some((0, n)),
+        Err(error) => {
             let _ = eprintln!(errors; "standard input: {error}");
-            Left::Nothing
+            None
         }
     }
 }
@@ -76,7 +70,7 @@ fn turn<R: Read, E: Eprint>(
     requires most_for_sheet_in_bounds { most_for_sheet ≤ length out.old }
     ensures { Turned at end bytes.old bytes.new out.old out.new result }
 {
-    let Left::Bytes(from, to) = more(input, errors, bytes, at, end) else {
+    let Some((from, to)) = more(input, errors, bytes, at, end) else {
         return Outcome::Failed;
     };
     if from == to {
@@ -99,8 +93,8 @@ fn print<W: Write, E: Eprint>(output: &mut W, errors: &E, text: &[u8]) -> bool {
     }
 }
 
-// Answers sheet after sheet. A proved loop has to end, and nothing says that the input does: so the loop counts its turns down,
-// from a number (2^53) that no run uses up and after which the bytes printed can still be counted.
+// Answers sheet after sheet. A proved loop has to end, and nothing says that the input does: so the loop counts its turns, up
+// to a number (2^53) that no run uses up and after which the bytes printed can still be counted.
 fn answer_all<R: Read, W: Write, E: Eprint>(
     input: &mut R,
     output: &mut W,
@@ -117,8 +111,7 @@ fn answer_all<R: Read, W: Write, E: Eprint>(
     let mut at = start;
     let mut end = stop;
     let mut printed: u64 = 0;
-    let mut turns: u64 = 9007199254740992;
-    while 0 < turns {
+    for _turn in 0..9007199254740992u64 {
         match turn(input, errors, bytes, at, end, out) {
             Outcome::Answered(next, to, n) => {
                 if !print(output, errors, &out[0..n]) {
@@ -141,7 +134,6 @@ fn answer_all<R: Read, W: Write, E: Eprint>(
                 return Ended::Failed;
             }
         }
-        turns -= 1;
     }
     Ended::Failed
 }

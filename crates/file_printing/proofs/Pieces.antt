@@ -10,7 +10,6 @@ use lib.ListN.{length, set, length-append, length-take, length-drop}
 use lib.Ieee as Ieee
 use lib.Ieee.{Float, nan, inf, fin}
 use Rattle.model.specs.declared.Totals.{Totals}
-use Rattle.model.specs.declared.Solved.TheVariants.{Ran}
 use Rattle.model.specs.Whole.{amount}
 use Rattle.model.specs.Plan.{Plan, decode, vehicle_of, is_placed, Sizes}
 use Rattle.model.specs.File.{line_feed, dash, justified, columns, fields, line, printed_stop, printed_run, printed_refusal, printed}
@@ -20,7 +19,7 @@ use Rattle.model.proofs.Pieces.{for_each-append}
 use Rattle.model.proofs.PlanForm.{length_cut}
 use Rattle.model.proofs.Locate.{vehicle-le}
 use Rattle.solution.specs.declared.Place.{Place}
-use Rattle.std.specs.Prelude.{Option, Some, None}
+use Rattle.std.specs.Prelude.{Option, Some, None, Ok}
 use Rattle.solution.specs.Places.{place_of}
 use Rattle.file_columns.specs.Put.{written}
 use Rattle.file_printing.specs.Printing.{printed_vehicle, printed_stops, printed_totals, Prints}
@@ -197,7 +196,7 @@ totals-length t r i =
 pub run-printed : (t : Totals) (v n : ℕ) (xs : List ℕ) (old a b : List ℕ) → Sizes v n → n * 9 + 101 ≤ length old
     → t.rounds < 10 ^ 20 → t.improving < 10 ^ 20
     → a ≡ written old 0 (printed_stops (decode v xs) n) → b ≡ written a (n * 9) (printed_totals t)
-    → Prints old b (n * 9 + 101) (printed n (decode v xs) (Ran t))
+    → Prints old b (n * 9 + 101) (printed n (decode v xs) (Ok t))
 unfolding printed printed_run printed_stops printed_totals
 run-printed t v n xs old a b sizes room r i e g =
     let P = decode v xs in

@@ -1,15 +1,13 @@
 // The columns that the program prints for a run and for a refusal.
 #![tactic(auto)]
 
-ghost use Rattle.std.specs.Prelude.{◌≡◌, cond, [], ◌∷◌, ◌+◌, ◌*◌, ◌≤◌, ◌<◌, length};
-ghost use Rattle.model.specs.declared.Solved.TheVariants.{Ran};
+ghost use Rattle.std.specs.Prelude.{◌≡◌, ◌+◌, ◌*◌, ◌≤◌, ◌<◌, length, Ok};
 ghost use Rattle.model.specs.Plan.{decode};
-ghost use Rattle.model.specs.Numbers.{number_of};
-ghost use Rattle.model.specs.File.{dash, justified, printed_stop, printed_refusal, printed};
+ghost use Rattle.model.specs.File.{printed_stop, printed_refusal, printed};
 ghost use Rattle.file_columns.specs.Put.{written};
 ghost use Rattle.file_printing.specs.Printing.{printed_vehicle, printed_stops, printed_totals, Priced, Printable, Prints};
 
-use model::{Refusal, Totals};
+use model::Totals;
 
 // The vehicle of a stop, or a dash where it has none.
 fn put_vehicle(out: &mut [u8], at: usize, plan: &[u32], v: usize, n: usize, stop: u32)
@@ -66,19 +64,19 @@ pub fn put_totals(out: &mut [u8], at: usize, t: Totals)
 pub fn print_run(t: Totals, plan: &[u32], v: usize, n: usize, out: &mut [u8]) -> usize
     requires printable { Printable v n plan.now out.old 0 (n * 9 + 101) }
     requires priced { Priced t }
-    ensures { Prints out.old out.new result (printed n (decode v plan.now) (Ran t)) }
+    ensures { Prints out.old out.new result (printed n (decode v plan.now) (Ok t)) }
 {
     put_stops(out, plan, v, n);
     put_totals(out, n * 9, t);
     n * 9 + 101
 }
 
-// What is printed for a refusal.
-pub fn print_refusal(refusal: Refusal, out: &mut [u8]) -> usize
+// What is printed for the refusal of a number.
+pub fn print_refusal(number: u32, out: &mut [u8]) -> usize
     requires { 21 ≤ length out.old }
-    ensures { Prints out.old out.new result (printed_refusal (number_of refusal)) }
+    ensures { Prints out.old out.new result (printed_refusal number) }
 {
-    file_columns::put_number(out, 0, 20, u32::from(refusal) as u64);
+    file_columns::put_number(out, 0, 20, number as u64);
     out[20] = b'\n';
     21
 }

@@ -11,8 +11,8 @@ use Rattle.model.specs.File.{file_of, printed_refusal, Stands, AcceptedAt}
 use Rattle.model.proofs.Pieces.{stands-within, part, join}
 use Rattle.model.proofs.Tasks as tasks
 use Rattle.file_job.specs.declared.Header.{Header}
-use Rattle.file_job.specs.declared.TaskRead.{TaskRead}
-use Rattle.file_job.specs.declared.TaskRead.TheVariants as T
+use Rattle.model.specs.declared.refusal.Refusal.{Refusal}
+use Rattle.std.specs.Prelude.{Option, Some, None, Result, Ok, Err}
 use Rattle.file_lines.specs.Standing.{over}
 use Rattle.file_job.specs.Reading.{Buffers, Room, ReadAt, Holds}
 use Rattle.file_lines.proofs.Fills.{over-front}
@@ -21,13 +21,12 @@ use Rattle.file_printing.proofs.Pieces.{prints-within}
 use Rattle.file_printing.specs.Printing.{Prints}
 use Rattle.sheet_lines.specs.Printed.{most_for_sheet}
 use Rattle.sheet_head.specs.declared.Head.{Head}
-use Rattle.sheet_head.specs.declared.HeadRead.{HeadRead}
-use Rattle.sheet_head.specs.declared.HeadRead.TheVariants as H
+use Rattle.sheet_head.specs.Numbered.{number_of_call}
 use Rattle.sheet_answer.specs.declared.SheetRead.TheVariants as R
 use Rattle.sheet_head.specs.Form.{has_given, least_given, most_given, has_plan, head_of, ListFor, longest_plan}
 use Rattle.sheet_answer.specs.Sheets.{Sheet, sheet_of, ReadableSheet, SheetAt, printed_sheet}
 use Rattle.sheet_head.specs.Reading.{HeadOf, HeadHolds, HeadAt}
-use Rattle.sheet_answer.specs.Running.{plan_length, HoldsSheet, ReadySheet, SheetPrints, Answered, AnswersSheet}
+use Rattle.sheet_answer.specs.Running.{plan_length, HoldsSheet, ReadySheet, SheetPrints, AnswersSheet}
 use Rattle.sheet_head.proofs.Lines.{few-given, SameHead, same_head, head-length, plan-shown, plan-known}
 
 -- ---- the parts of a sheet
@@ -75,11 +74,11 @@ module _ (bytes : List ℕ) (at : ℕ) where
       → ((to : ℕ) (S : Sheet) → SheetAt bytes at to S → ⊥) → AnswersSheet bytes at out printed (R.Bad r)
   refused out printed r l p none = record { none = none; prints = p; fits = prints-within out printed r (printed_refusal 14) p l }
 
-  pub no-head : (a : HeadRead) (given plan given' plan' : List ℕ) → HeadAt bytes at given plan given' plan' a → a ≡ H.Bad
+  pub no-head : (a : Option Head) (given plan given' plan' : List ℕ) → HeadAt bytes at given plan given' plan' a → a ≡ None
       → (out printed : List ℕ) (r : ℕ) → length printed ≡ length out → Prints out printed r (printed_refusal 14)
       → AnswersSheet bytes at out printed (R.Bad r)
   no-head a given plan given' plan' h e out printed r l p =
-      let none : HeadAt bytes at given plan given' plan' H.Bad = rw e at h in
+      let none : HeadAt bytes at given plan given' plan' None = rw e at h in
       refused out printed r l p λ to S s. none.2 S.call S.given S.plan (blank S.task.job) (sheet-head to S s)
 
 -- ---- the lists that a call is lent
@@ -97,16 +96,16 @@ lent false ns plan lined whole f p l w =
 
 -- ---- a sheet that was read
 
-module _ (bytes : List ℕ) (at : ℕ) (a : HeadRead) (given given' plan' : List ℕ) (headed : HeadAt bytes at given (replicate longest_plan 0) given' plan' a)
-    (k : Head) (e : a ≡ H.Read k) where
+module _ (bytes : List ℕ) (at : ℕ) (a : Option Head) (given given' plan' : List ℕ) (headed : HeadAt bytes at given (replicate longest_plan 0) given' plan' a)
+    (k : Head) (e : a ≡ Some k) where
   holds : HeadHolds bytes at k given (replicate longest_plan 0) given' plan'
   holds = rw e at headed
 
   -- the head of any sheet there is the one that was read
   same : (to : ℕ) (S : Sheet) → SheetAt bytes at to S
-      → SameHead bytes at k.call holds.stops holds.numbers [] S.call S.given S.plan (blank S.task.job)
+      → SameHead bytes at (number_of_call k.call) holds.stops holds.numbers [] S.call S.given S.plan (blank S.task.job)
   same to S s =
-      same_head bytes at k.call S.call holds.stops holds.numbers [] S.given S.plan (blank S.task.job)
+      same_head bytes at (number_of_call k.call) S.call holds.stops holds.numbers [] S.given S.plan (blank S.task.job)
       holds.lines (sheet-head bytes at to S s)
 
   -- so its job file stands where the one that was read begins
@@ -115,24 +114,24 @@ module _ (bytes : List ℕ) (at : ℕ) (a : HeadRead) (given given' plan' : List
       subst (λ x. AcceptedAt bytes x to S.task) (ap (λ t. at + length t) (same to S s).text ∙ sym holds.end)
       (sheet-file bytes at to S s)
 
-  module _ (b : TaskRead) (old new : Buffers) (read : ReadAt bytes k.end old new b) where
-    pub no-file : (number : ℕ) → b ≡ T.Refused number → (out printed : List ℕ) (r : ℕ) → length printed ≡ length out
+  module _ (b : Result Header Refusal) (old new : Buffers) (read : ReadAt bytes k.end old new b) where
+    pub no-file : (why : Refusal) → b ≡ Err why → (out printed : List ℕ) (r : ℕ) → length printed ≡ length out
         → Prints out printed r (printed_refusal 14) → AnswersSheet bytes at out printed (R.Bad r)
-    no-file number f out printed r l p =
-        let none : ReadAt bytes k.end old new (T.Refused number) = rw f at read in
+    no-file why f out printed r l p =
+        let none : ReadAt bytes k.end old new (Err why) = rw f at read in
         refused bytes at out printed r l p λ to S s. none.2 to S.task (same-file to S s)
 
-    module _ (h : Header) (f : b ≡ T.Read h) where
-      found : ReadAt bytes k.end old new (T.Read h)
+    module _ (h : Header) (f : b ≡ Ok h) where
+      found : ReadAt bytes k.end old new (Ok h)
       found = rw f at read
 
       -- the sheet
       abbrev sheet_read : Sheet
       sheet_read =
           record {
-            call = k.call;
+            call = (number_of_call k.call);
             given = holds.stops;
-            plan = cond (has_plan k.call) holds.numbers (blank found.0.job);
+            plan = cond (has_plan (number_of_call k.call)) holds.numbers (blank found.0.job);
             task = found.0;
           }
 
@@ -143,7 +142,7 @@ module _ (bytes : List ℕ) (at : ℕ) (a : HeadRead) (given given' plan' : List
             first = l.first;
             last = l.last;
             given = l.stops;
-            plan = plan-known (has_plan k.call) holds.numbers (blank found.0.job) l.numbers;
+            plan = plan-known (has_plan (number_of_call k.call)) holds.numbers (blank found.0.job) l.numbers;
             task = found.1.2;
           }
 
@@ -161,8 +160,8 @@ module _ (bytes : List ℕ) (at : ℕ) (a : HeadRead) (given given' plan' : List
             call = refl;
             task = task-held;
             stops = (λ i. take (holds.count_given i) (holds.same_given i)) ∙ over-front holds.stops given;
-            numbers = ap (λ x. take (plan_length k.call k.plan x) plan') whole
-                ∙ lent (has_plan k.call) holds.numbers plan' k.plan (vehicle_count found.0.job + stop_count found.0.job)
+            numbers = ap (λ x. take (plan_length (number_of_call k.call) k.plan x) plan') whole
+                ∙ lent (has_plan (number_of_call k.call)) holds.numbers plan' k.plan (vehicle_count found.0.job + stop_count found.0.job)
                 holds.lines.numbers holds.same_plan holds.count_plan (omega (arith, r.vehicles, r.stops));
           }
 
@@ -176,21 +175,21 @@ module _ (bytes : List ℕ) (at : ℕ) (a : HeadRead) (given given' plan' : List
             stops = omega (
               arith,
               holds.count_given,
-              short (has_given k.call) (least_given k.call) (most_given k.call) 8 holds.stops holds.lines.stops
-                  (few-given k.call),
+              short (has_given (number_of_call k.call)) (least_given (number_of_call k.call)) (most_given (number_of_call k.call)) 8 holds.stops holds.lines.stops
+                  (few-given (number_of_call k.call)),
             );
-            lined = omega (arith, holds.count_plan, short (has_plan k.call) 0 longest_plan longest_plan holds.numbers holds.lines.numbers (omega arith));
+            lined = omega (arith, holds.count_plan, short (has_plan (number_of_call k.call)) 0 longest_plan longest_plan holds.numbers holds.lines.numbers (omega arith));
             long = p;
             room = m;
           }
 
-      sheet-text : sheet_of sheet_read ≡ head_of k.call holds.stops holds.numbers ++ file_of found.0
+      sheet-text : sheet_of sheet_read ≡ head_of (number_of_call k.call) holds.stops holds.numbers ++ file_of found.0
       unfolding sheet_of
-      sheet-text = ap (λ t. t ++ file_of found.0) (plan-shown k.call holds.stops holds.numbers (blank found.0.job))
+      sheet-text = ap (λ t. t ++ file_of found.0) (plan-shown (number_of_call k.call) holds.stops holds.numbers (blank found.0.job))
 
       sheet-there : SheetAt bytes at h.end sheet_read
       sheet-there =
-          let t = head_of k.call holds.stops holds.numbers in
+          let t = head_of (number_of_call k.call) holds.stops holds.numbers in
           let u = file_of found.0 in
           record {
             stands = rw sheet-text (join bytes at t u holds.lines.stand (subst (λ x. Stands bytes x u) holds.end found.1.0));
@@ -200,12 +199,12 @@ module _ (bytes : List ℕ) (at : ℕ) (a : HeadRead) (given given' plan' : List
 
       sheet-long : at + 1 ≤ at + length (sheet_of sheet_read)
       sheet-long =
-          let t = head_of k.call holds.stops holds.numbers in
+          let t = head_of (number_of_call k.call) holds.stops holds.numbers in
           omega (
             arith,
             ap length sheet-text,
             length-append t (file_of found.0),
-            head-length bytes at k.call holds.stops holds.numbers holds.lines.last,
+            head-length bytes at (number_of_call k.call) holds.stops holds.numbers holds.lines.last,
           )
 
       pub sheet-answered : (out printed : List ℕ) (r : ℕ) → length printed ≡ length out → SheetPrints k h new given' plan' out printed r

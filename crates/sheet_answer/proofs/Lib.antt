@@ -3,3 +3,4 @@ pub mod Held
 pub mod Found
 pub mod Longest
 pub mod Once
+pub mod Seen

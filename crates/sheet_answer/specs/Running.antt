@@ -8,6 +8,7 @@ use Rattle.file_job.specs.Reading.{Buffers, Holds, Bounds}
 use Rattle.file_printing.specs.Printing.{Prints}
 use Rattle.sheet_lines.specs.Printed.{Printable, most_for_sheet}
 use Rattle.sheet_head.specs.declared.Head.{Head}
+use Rattle.sheet_head.specs.Numbered.{number_of_call}
 use Rattle.sheet_answer.specs.declared.SheetRead.{SheetRead}
 use Rattle.sheet_answer.specs.declared.SheetRead.TheVariants as R
 use Rattle.sheet_head.specs.Form.{last_call, least_given, most_given, has_plan, longest_plan}
@@ -36,10 +37,10 @@ plan_length call lined whole = cond (has_plan call) lined whole
 -- the lists begin with those of a sheet
 pub record HoldsSheet (k : Head) (h : Header) (m : Buffers) (given plan : List ℕ) (S : Sheet) : Type 0 where
   pub readable : ReadableSheet S
-  pub call : k.call ≡ S.call
+  pub call : number_of_call k.call ≡ S.call
   pub task : Holds h m S.task
   pub stops : take k.given given ≡ S.given
-  pub numbers : take (plan_length k.call k.plan (h.vehicles + h.stops)) plan ≡ S.plan
+  pub numbers : take (plan_length (number_of_call k.call) k.plan (h.vehicles + h.stops)) plan ≡ S.plan
 
 -- so of some sheet, with room to print into
 pub record ReadySheet (k : Head) (h : Header) (m : Buffers) (given plan out : List ℕ) : Type 0 where

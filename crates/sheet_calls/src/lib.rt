@@ -11,7 +11,7 @@ ghost use Rattle.sheet_calls.specs.Changing.{live_of, changing};
 ghost use Rattle.sheet_calls.specs.Moving.{carrying};
 ghost use Rattle.sheet_calls.specs.Lengthening.{road_of};
 
-use model::{Prices, Solved, Weighed, Written};
+use model::Prices;
 
 // Weighs a plan and prints the answer: how many bytes it is.
 pub fn weigh(
@@ -27,10 +27,8 @@ pub fn weigh(
     ensures { Prints out.old out.new result
         (printed_weight (cost_answer Weigh (asking (job_of vehicles.now stops.now locations distances.now prices) plan.now []))) }
 {
-    match planner::weigh(vehicles, stops, locations, distances, prices, plan) {
-        Weighed::Refused(number) => file_printing::print_refusal(number, out),
-        Weighed::Cost(c) => sheet_printing::print_cost(c, out),
-    }
+    let answer = planner::weigh(vehicles, stops, locations, distances, prices, plan);
+    sheet_lines::print_value(answer, out)
 }
 
 // Writes the start plan and prints it.
@@ -48,10 +46,8 @@ pub fn start_plan(
         plan.new) }
     ensures plan_after { plan.new ≡ plan_left StartPlan (asking (job_of vehicles.now stops.now locations distances.now unpriced) plan.old []) }
 {
-    match planner::start_plan(vehicles, stops, locations, distances, plan) {
-        Written::Refused(number) => file_printing::print_refusal(number, out),
-        Written::Done => sheet_printing::print_list(plan, out),
-    }
+    let written = planner::start_plan(vehicles, stops, locations, distances, plan);
+    sheet_lines::print_answer(written, plan, out)
 }
 
 // Makes the two-opt move of two stops, and prints the cost and the plan: how many bytes it is.
@@ -74,7 +70,7 @@ pub fn two_opt(
     let answer = planner::two_opt(
         vehicles, stops, locations, distances, prices, plan, first, second,
     );
-    sheet_lines::print_weighed(answer, plan, out)
+    sheet_lines::print_answer(answer, plan, out)
 }
 
 // Rebuilds around the given stops, and prints the cost, the fillings begun, the arrangements completed and the plan.
@@ -94,7 +90,7 @@ pub fn rebuild(
     ensures plan_after { plan.new ≡ plan_left Rebuild (asking (job_of vehicles.now stops.now locations distances.now prices) plan.old given.now) }
 {
     let answer = planner::rebuild(vehicles, stops, locations, distances, prices, plan, given);
-    sheet_lines::print_rebuilt(answer, plan, out)
+    sheet_lines::print_answer(answer, plan, out)
 }
 
 // Prints the cost and the plan of the exhaustive solver: how many bytes it is.
@@ -113,7 +109,7 @@ pub fn exhaustive(
     ensures plan_after { plan.new ≡ plan_left Exhaustive (asking (job_of vehicles.now stops.now locations distances.now prices) plan.old []) }
 {
     let answer = planner::exhaustive(vehicles, stops, locations, distances, prices, plan);
-    sheet_lines::print_weighed(answer, plan, out)
+    sheet_lines::print_answer(answer, plan, out)
 }
 
 // Prints those of the pruned solver.
@@ -132,7 +128,7 @@ pub fn pruned(
     ensures plan_after { plan.new ≡ plan_left Pruned (asking (job_of vehicles.now stops.now locations distances.now prices) plan.old []) }
 {
     let answer = planner::pruned(vehicles, stops, locations, distances, prices, plan);
-    sheet_lines::print_weighed(answer, plan, out)
+    sheet_lines::print_answer(answer, plan, out)
 }
 
 // Runs the planner, and prints the numbers of the run and the plan: how many bytes it is.
@@ -153,12 +149,10 @@ pub fn solve(
         (printed_solved (solve_answer (running (job_of vehicles.now stops.now locations distances.now prices) smoothing limit draws.now plan.old)) plan.new) }
     ensures plan_after { plan.new ≡ plan_left Solve (running (job_of vehicles.now stops.now locations distances.now prices) smoothing limit draws.now plan.old) }
 {
-    match planner::solve(
+    let answer = planner::solve(
         vehicles, stops, locations, distances, prices, smoothing, limit, draws, plan,
-    ) {
-        Solved::Refused(number) => file_printing::print_refusal(number, out),
-        Solved::Ran(t) => sheet_printing::print_totals_and_list(t, plan, out),
-    }
+    );
+    sheet_lines::print_answer(answer, plan, out)
 }
 
 // The set of live stops, from its low and its high 32 bits, the second and the third of three given numbers.
@@ -191,7 +185,7 @@ pub fn arrive(
     let answer = planner::arrive(
         vehicles, stops, locations, distances, prices, plan, live, stop,
     );
-    sheet_lines::print_changed(answer, plan, out)
+    sheet_lines::print_answer(answer, plan, out)
 }
 
 // Cancels a stop, and prints the same.
@@ -216,7 +210,7 @@ pub fn cancel(
     let answer = planner::cancel(
         vehicles, stops, locations, distances, prices, plan, live, stop,
     );
-    sheet_lines::print_changed(answer, plan, out)
+    sheet_lines::print_answer(answer, plan, out)
 }
 
 // Writes what the holder of a set of vans sees of a plan, and prints the set of unplaced stops and that: how many bytes it is.
@@ -234,7 +228,7 @@ pub fn view(
     ensures seen_after { seen.new ≡ seen_left (looking (tableless vehicles.now stops.now) plan.now vans seen.old) }
 {
     let answer = planner::view(vehicles, stops, plan, vans, seen);
-    sheet_lines::print_viewed(answer, seen, out)
+    sheet_lines::print_answer(answer, seen, out)
 }
 
 // Moves a stop, and prints the change in cost and the plan.
@@ -261,7 +255,7 @@ pub fn move_stop(
     let answer = planner::move_stop(
         vehicles, stops, locations, distances, prices, plan, vans, stop, van, place,
     );
-    sheet_lines::print_moved(answer, plan, out)
+    sheet_lines::print_answer(answer, plan, out)
 }
 
 // Asks how much dearer a plan can become where a road gets longer, and prints that.
@@ -286,5 +280,5 @@ pub fn roadworks(
     let answer = planner::roadworks(
         vehicles, stops, locations, distances, prices, plan, from, to, more,
     );
-    sheet_lines::print_raised(answer, out)
+    sheet_lines::print_value(answer, out)
 }

@@ -119,21 +119,33 @@ fn check_given(bytes: &[u8], at: usize, call: Call) -> Option<Listed>
     check_list(bytes, at, least, most)
 }
 
-// Whether a call has a line with the plan's numbers.
-pub fn has_plan(call: Call) -> bool
-    ensures { result ≡ has_plan (number_of_call call) }
+impl Call {
+    // Whether a call has a line with the plan's numbers.
+    pub fn has_plan(self) -> bool
+        ensures { result ≡ has_plan (number_of_call self) }
+    {
+        !matches!(
+            self,
+            Call::StartPlan | Call::Exhaustive | Call::Pruned | Call::Solve
+        )
+    }
+}
+
+// The same for the call of a number. A number of no call has none.
+pub fn has_plan(call: u32) -> bool
+    ensures { result ≡ has_plan call }
 {
-    !matches!(
-        call,
-        Call::StartPlan | Call::Exhaustive | Call::Pruned | Call::Solve
-    )
+    match call_of(call) {
+        Some(call) => call.has_plan(),
+        None => false,
+    }
 }
 
 // The numbers of a call's plan, where it has a line with them.
 fn check_plan(bytes: &[u8], at: usize, call: Call) -> Option<Listed>
     ensures { ListIf (has_plan (number_of_call call)) bytes.now at 0 longest_plan result }
 {
-    if has_plan(call) {
+    if call.has_plan() {
         return check_list(bytes, at, 0, 96);
     }
     Some(Listed { count: 0, end: at })

@@ -9,15 +9,15 @@ use lib.Ieee.{Float}
 use lib.IntN.{ℤ}
 use lib.ListN.{length, take, get_or, set, length-append, length-take}
 use lib.Seq.{take-suc, take_all}
-use mir.Syntax.{w32, w64}
-use mir.Val.{Fits, SFits, of_z, to_z}
+use mir.Syntax.{w64}
+use mir.Val.{SFits, of_z, to_z}
 use mir.ValLaws.{to_z-of_z}
 use Rattle.model.specs.declared.Walk.{Walk}
 use Rattle.model.specs.declared.Standing.{Standing}
 use Rattle.model.specs.Whole.{amount}
 use Rattle.model.specs.File.{line_feed, columns, signed_columns, fields, line, printed_refusal}
 use Rattle.model.proofs.Columns.{columns-length}
-use Rattle.model.proofs.Pieces.{Fitting, fitting-take, fields-length, fields-one, fields-append, line-length}
+use Rattle.model.proofs.Pieces.{Fitting, fitting-take, fields-length, fields-one, fields-append}
 use Rattle.file_columns.specs.Put.{written}
 use Rattle.file_columns.proofs.Puts.{written-nil}
 use Rattle.file_columns.proofs.Signs.{signed-length}
@@ -42,12 +42,12 @@ module _ (old : List ℕ) (at : ℕ) (list : List ℕ) (f : Fitting list) (room 
       rw (add-one, take-suc list i 0, fields-append, fields-one)
       (after old a b at (14 * i) (fields 14 (take i list)) (columns 14 (get_or list i 0)) (part_length i (omega arith)) (omega arith) e g)
 
-  pub list-line : (i : ℕ) (a : List ℕ) → length list ≤ i → i ≤ length list → a ≡ written old at (fields 14 (take i list))
-      → set a (at + 14 * i) line_feed ≡ written old at (line 14 list)
+  pub list-line : (i : ℕ) (a : List ℕ) → i ≡ length list → a ≡ written old at (fields 14 (take i list))
+      → set a (at + 14 * length list) line_feed ≡ written old at (line 14 list)
   unfolding line
-  list-line i a g h e =
-      line-feed old a at (14 * i) (fields 14 (take i list)) (part_length i h) (omega arith) e
-      ∙ ap (λ l. written old at (fields 14 l ++ (line_feed ∷ []))) (take_all i list g)
+  list-line i a h e =
+      line-feed old a at (14 * length list) (fields 14 (take i list)) (part_length i (omega arith) ∙ ap (λ k. 14 * k) h) (omega arith) e
+      ∙ ap (λ l. written old at (fields 14 l ++ (line_feed ∷ []))) (take_all i list (omega arith))
 
 pub cost-line : (c : Float) (w : ℕ) (old a : List ℕ) → w ≡ amount c → 21 ≤ length old → a ≡ written old 0 (columns 20 w)
     → set a 20 line_feed ≡ written old 0 (printed_cost c)
@@ -76,10 +76,6 @@ change-line z old a f room e =
 pub change-length : (z : ℤ) → SFits w64 z → length (printed_change z) ≡ 21
 unfolding printed_change
 change-length z f = simp (length-append, signed-length z f.sfits)
-
--- and so is its line
-pub change-back : (z : ℤ) (old a : List ℕ) → SFits w64 z → a ≡ written old 0 (printed_change (to_z w64 (of_z w64 z))) → a ≡ written old 0 (printed_change z)
-change-back z old a f e = e ∙ ap (λ x. written old 0 (printed_change x)) (to_z-of_z w64 z f)
 
 pub walk-line : (w : Walk) (k : ℕ) (old a b c : List ℕ) → w.begun < 10 ^ 20 → w.completed < 10 ^ 20 → k ≡ amount w.cost → 61 ≤ length old
     → a ≡ written old 0 (columns 20 k) → b ≡ written a 20 (columns 20 w.begun) → c ≡ written b 40 (columns 20 w.completed)
@@ -127,10 +123,3 @@ two-pieces old a new first second j k r l m h room e g =
       count = omega (arith, length-append first second);
       same = after old a new 0 j first second l (omega arith) e (rw zero-add g);
     }
-
--- a line of 21 bytes and a plan
-pub line-and-list : (old a new text list : List ℕ) (r : ℕ) → ((i : ℕ) → Fits w32 (get_or list i 0)) → length text ≡ 21 → r ≡ 14 * length list + 22
-    → 14 * length list + 22 ≤ length old → a ≡ written old 0 text → new ≡ written a 21 (line 14 list) → Prints old new r (text ++ line 14 list)
-line-and-list old a new text list r small l h room e g =
-    let f : Fitting list = record { fits = λ i. omega (arith, (small i).fits) } in
-    two-pieces old a new text (line 14 list) 21 (14 * length list + 1) r l (line-length list f) (omega arith) (omega arith) e g

@@ -5,8 +5,9 @@ use Prim.Native.Nat.{ℕ, ◌+◌, ◌-◌, ◌≤◌}
 use native.Mathlib.Omega.{arith}
 use lib.ListN.{length, take, replicate, length-replicate}
 use Rattle.model.specs.declared.Totals.{Totals}
-use Rattle.model.specs.declared.Solved.{Solved}
-use Rattle.model.specs.declared.Solved.TheVariants as S
+use Rattle.model.specs.declared.refusal.Refusal.{Refusal}
+use Rattle.model.specs.Numbers.{number_of}
+use Rattle.std.specs.Prelude.{Result, Ok, Err}
 use Rattle.model.specs.Job.{Job, vehicle_count, stop_count}
 use Rattle.model.specs.Plan.{Plan, decode}
 use Rattle.model.specs.Run.{Task}
@@ -19,15 +20,13 @@ use Rattle.file_job.specs.declared.Header.{Header}
 use Rattle.file_job.proofs.Held.{loaded-held, bounds, task_in, same-task, take-replicate}
 use Rattle.file_printing.proofs.Pieces.{prints-within}
 use Rattle.file_job.specs.Reading.{header_of, Buffers, Room, ReadWhole, Holds}
-use Rattle.file_job.specs.declared.TaskRead.{TaskRead}
-use Rattle.file_job.specs.declared.TaskRead.TheVariants as R
 use Rattle.file_printing.specs.Printing.{Prints}
 use Rattle.shuttle_answers.specs.Answers.{Runnable, Ready, most_for_file, TaskPrints, Answers, Printed}
 
 -- ---- what is printed of a run
 
 -- a run that is lent a blank plan
-module _ (J : Job) (c limit : ℕ) (draws lent : List ℕ) (b : lent ≡ blank J) (a : Solved) (e : a ≡ solve_answer (running J c limit draws lent))
+module _ (J : Job) (c limit : ℕ) (draws lent : List ℕ) (b : lent ≡ blank J) (a : Result Totals Refusal) (e : a ≡ solve_answer (running J c limit draws lent))
     (old new : List ℕ) (r : ℕ) where
   abbrev T : Task
   T = record { job = J; smoothing = c; limit = limit; draws = draws }
@@ -36,17 +35,17 @@ module _ (J : Job) (c limit : ℕ) (draws lent : List ℕ) (b : lent ≡ blank J
   task-answer : a ≡ solve_answer (run_of T)
   task-answer = e ∙ ap (λ (l : List ℕ). solve_answer (running J c limit draws l)) b
 
-  pub refused-printed : (number : ℕ) → a ≡ S.Refused number → Prints old new r (printed_refusal number) → Prints old new r (printed_task T)
+  pub refused-printed : (why : Refusal) → a ≡ Err why → Prints old new r (printed_refusal (number_of why)) → Prints old new r (printed_task T)
   unfolding printed_task printed
-  refused-printed number h p =
-      subst (λ (x : Solved). Prints old new r (printed (stop_count J) (final_state T).plan x)) (sym h ∙ task-answer) p
+  refused-printed why h p =
+      subst (λ (x : Result Totals Refusal). Prints old new r (printed (stop_count J) (final_state T).plan x)) (sym h ∙ task-answer) p
 
-  pub run-printed : (t : Totals) (plan : List ℕ) → a ≡ S.Ran t → plan ≡ plan_left Solve (running J c limit draws lent)
-      → Prints old new r (printed (stop_count J) (decode (vehicle_count J) plan) (S.Ran t)) → Prints old new r (printed_task T)
+  pub run-printed : (t : Totals) (plan : List ℕ) → a ≡ Ok t → plan ≡ plan_left Solve (running J c limit draws lent)
+      → Prints old new r (printed (stop_count J) (decode (vehicle_count J) plan) (Ok t)) → Prints old new r (printed_task T)
   unfolding printed_task
   run-printed t plan h l p =
-      subst (λ (x : Solved). Prints old new r (printed (stop_count J) (final_state T).plan x)) (sym h ∙ task-answer)
-      (subst (λ (P : Plan). Prints old new r (printed (stop_count J) P (S.Ran t))) (ran-decode (running J c limit draws lent) t (sym h ∙ e) plan l) p)
+      subst (λ (x : Result Totals Refusal). Prints old new r (printed (stop_count J) (final_state T).plan x)) (sym h ∙ task-answer)
+      (subst (λ (P : Plan). Prints old new r (printed (stop_count J) P (Ok t))) (ran-decode (running J c limit draws lent) t (sym h ∙ e) plan l) p)
 
 -- ---- a task whose lists stand at the front of others
 
@@ -72,8 +71,8 @@ task-prints h m old new r p T k = subst (λ U. Prints old new r (printed_task U)
 
 -- ---- a file that is read
 
-module _ (bytes : List ℕ) (old new : Buffers) (a : TaskRead) (read : ReadWhole bytes old new a) (h : Header) (e : a ≡ R.Read h) where
-  whole : ReadWhole bytes old new (R.Read h)
+module _ (bytes : List ℕ) (old new : Buffers) (a : Result Header Refusal) (read : ReadWhole bytes old new a) (h : Header) (e : a ≡ Ok h) where
+  whole : ReadWhole bytes old new (Ok h)
   whole = rw e at read
 
   held : Holds h new whole.0
@@ -92,10 +91,10 @@ module _ (bytes : List ℕ) (old new : Buffers) (a : TaskRead) (read : ReadWhole
         refused = λ no. absurd (no whole.0 whole.1);
       }
 
-pub no-file-answers : (bytes : List ℕ) (old new : Buffers) (a : TaskRead) → ReadWhole bytes old new a → (number : ℕ) → a ≡ R.Refused number
+pub no-file-answers : (bytes : List ℕ) (old new : Buffers) (a : Result Header Refusal) → ReadWhole bytes old new a → (why : Refusal) → a ≡ Err why
     → (out printed : List ℕ) (r : ℕ) → length printed ≡ length out → Prints out printed r (printed_refusal 14) → Answers bytes out printed r
-no-file-answers bytes old new a read number e out printed r l p =
-    let no : ReadWhole bytes old new (R.Refused number) = rw e at read in
+no-file-answers bytes old new a read why e out printed r l p =
+    let no : ReadWhole bytes old new (Err why) = rw e at read in
     record { accepted = λ T t. absurd (no.2 T t); within = prints-within out printed r (printed_refusal 14) p l; refused = λ _. p }
 
 -- where the answer of some bytes is printed, as many bytes are

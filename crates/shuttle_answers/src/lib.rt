@@ -1,7 +1,7 @@
 // What the shuttle program does with the bytes that it reads: it reads the task, runs it and prints the answer, from one slice to another.
 #![tactic(auto)]
 
-ghost use Rattle.std.specs.Prelude.{◌≡◌, ◌⊎◌, ◌≤◌, length};
+ghost use Rattle.std.specs.Prelude.{◌≡◌, ◌≤◌, length, IfSome};
 ghost use Rattle.model.specs.File.{printed_task};
 ghost use Rattle.model.specs.Run.{task_for};
 ghost use Rattle.model.specs.Job.{job_of};
@@ -9,9 +9,8 @@ ghost use Rattle.file_job.specs.Reading.{buffers};
 ghost use Rattle.file_printing.specs.Printing.{Prints};
 ghost use Rattle.shuttle_answers.specs.Answers.{most_for_file, Runnable, Ready, TaskPrints, Answers, Printed};
 
-use file_input::Filled;
-use file_job::{Header, TaskRead};
-use model::{Prices, Solved};
+use file_job::Header;
+use model::{Prices, Refusal};
 use std::io::{self, Read, Write};
 use std::str;
 
@@ -35,11 +34,11 @@ fn run(
     match planner::solve(
         vehicles, stops, locations, distances, prices, smoothing, limit, draws, plan,
     ) {
-        Solved::Refused(number) => file_printing::print_refusal(number, out),
-        Solved::Ran(t) => {
+        Ok(t) => {
             let v = vehicles.len() / 2;
             file_printing::print_run(t, plan, v, stops.len(), out)
         }
+        Err(refusal) => file_printing::print_refusal(u32::from(refusal), out),
     }
 }
 
@@ -86,14 +85,9 @@ fn answer(bytes: &[u8], out: &mut [u8]) -> usize
     let mut stops = [0u32; 64];
     let mut distances = [0u32; 6400];
     let mut draws = [0u32; 1024];
-    let TaskRead::Read(h) = file_job::read_file(
-        bytes,
-        &mut vehicles,
-        &mut stops,
-        &mut distances,
-        &mut draws,
-    ) else {
-        return file_printing::print_refusal(14, out);
+    let Ok(h) = file_job::read_file(bytes, &mut vehicles, &mut stops, &mut distances, &mut draws)
+    else {
+        return file_printing::print_refusal(u32::from(Refusal::File), out);
     };
     let mut plan = [0u32; 80];
     run_task(h, &vehicles, &stops, &distances, &draws, &mut plan, out)
@@ -107,30 +101,30 @@ fn tell<E: Eprint>(errors: &E, name: &[u8], error: io::Error) {
     };
 }
 
-// Writes what is printed for the file of a reader to standard output, which is lent as a writer: how many bytes it is, and 0 where
+// Writes what is printed for the file of a reader to standard output, which is lent as a writer: how many bytes it is, and none where
 // reading or writing fails. What failed is told on standard error, where the reader goes by its name.
 pub fn print_answer<R: Read, W: Write, E: Eprint>(
     input: &mut R,
     name: &[u8],
     output: &mut W,
     errors: &E,
-) -> usize
-    ensures { (result ≡ 0) ⊎ Printed result }
+) -> Option<usize>
+    ensures { IfSome result Printed }
 {
     // one byte more than the longest job file has, so that a longer one is seen not to end there
     let mut bytes = [0u8; 106593];
     let n = match file_input::fill(input, &mut bytes, 0) {
-        Filled::Bytes(n) => n,
-        Filled::Failed(error) => {
+        Ok(n) => n,
+        Err(error) => {
             tell(errors, name, error);
-            return 0;
+            return None;
         }
     };
     let mut out = [0u8; 677];
     let m = answer(&bytes[0..n], &mut out);
     if let Err(error) = output.write_all(&out[0..m]) {
         tell(errors, b"standard output", error);
-        return 0;
+        return None;
     }
-    m
+    Some(m)
 }

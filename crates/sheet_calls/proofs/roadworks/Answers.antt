@@ -3,4 +3,4 @@ use Rattle.sheet_calls.proofs.roadworks.Goals as goal
 
 pub returns : goal.returns
 returns c =
-    shown-raised _ _ _ _ _ c.roadworks-answer.ensures.answer c.print_raised.ensures
+    shown-raised _ _ _ _ _ c.roadworks-answer.ensures.answer c.print_value.ensures

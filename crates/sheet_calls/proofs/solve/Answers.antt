@@ -1,19 +1,13 @@
-use mathlib.Core.Path.{sym, ◌∙◌}
-use borrow.Author.Rules.{rules}
+use Rattle.std.proofs.Common.{sym, ◌∙◌, rules}
 use Rattle.planner.proofs.Ran.{ran-priced}
 use Rattle.sheet_lines.proofs.Shown.{shown-solved}
 use Rattle.sheet_calls.proofs.solve.Goals as goal
 
-pub print_totals_and_list-requires : goal.print_totals_and_list-requires
-print_totals_and_list-requires c =
-    record { list_in_bounds = search rules; priced = ran-priced _ _ (sym c.in-Ran.is ∙ c.solve.ensures.answer) }
+pub print_answer-requires : goal.print_answer-requires
+print_answer-requires c =
+    record { printable = search rules; exactly = λ t e. ran-priced _ t (sym e ∙ c.solve-answer.ensures.answer) }
 
-pub returns-in-Refused : goal.returns-in-Refused
-returns-in-Refused c =
-    let f = c.solve.ensures in
-    record { prints = shown-solved _ _ _ _ _ _ (sym c.in-Refused.is ∙ f.answer) c.print_refusal.ensures; plan_after = f.plan }
-
-pub returns-in-Ran : goal.returns-in-Ran
-returns-in-Ran c =
-    let f = c.solve.ensures in
-    record { prints = shown-solved _ _ _ _ _ _ (sym c.in-Ran.is ∙ f.answer) c.print_totals_and_list.ensures; plan_after = f.plan }
+pub returns : goal.returns
+returns c =
+    let f = c.solve-answer.ensures in
+    record { prints = shown-solved _ _ _ _ _ _ f.answer c.print_answer.ensures; plan_after = f.plan }

@@ -4,12 +4,12 @@ use Rattle.shuttle_answers.proofs.answer.Goals as goal
 
 pub returns-in_default : goal.returns-in_default
 returns-in_default c =
-    no-file-answers _ _ _ _ c.read_file.ensures _ c.in_default.is _ _ _ (search rules) c.print_refusal.ensures
+    no-file-answers _ _ _ _ c.read_file.ensures _ c.in_default.is _ _ _ (search rules) (rw c.from.ensures at c.print_refusal.ensures)
 
 pub run_task-requires : goal.run_task-requires
 run_task-requires c =
-    file-ready _ _ _ _ c.read_file.ensures _ c.in-Read.is _ _ (search rules) refl (search rules)
+    file-ready _ _ _ _ c.read_file.ensures _ c.in-Ok.is _ _ (search rules) refl (search rules)
 
 pub returns : goal.returns
 returns c =
-    file-answers _ _ _ _ c.read_file.ensures _ c.in-Read.is _ _ _ (search rules) c.run_task.ensures
+    file-answers _ _ _ _ c.read_file.ensures _ c.in-Ok.is _ _ _ (search rules) c.run_task.ensures

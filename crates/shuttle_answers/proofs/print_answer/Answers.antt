@@ -1,6 +1,5 @@
-use Rattle.std.proofs.Common.{inr}
 use Rattle.shuttle_answers.proofs.Laws.{answers-printed}
 use Rattle.shuttle_answers.proofs.print_answer.Goals as goal
 
 pub returns : goal.returns
-returns g c = inr (answers-printed _ _ _ _ c.answer-m.ensures)
+returns g c = answers-printed _ _ _ _ c.answer-m.ensures

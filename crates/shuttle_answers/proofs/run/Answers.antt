@@ -5,16 +5,16 @@ use Rattle.shuttle_answers.proofs.run.Goals as goal
 
 pub print_run-requires : goal.print_run-requires
 print_run-requires c =
-    let e = sym c.in-Ran.is ∙ c.solve.ensures.answer in
+    let e = sym c.in-Ok.is ∙ c.solve.ensures.answer in
     record {
       printable = record { sizes = ran-sizes _ _ e; form = ran-lent _ _ e _ c.solve.ensures.plan; room = omega (arith, c.requires.stops, c.requires.room) };
       priced = ran-priced _ _ e;
     }
 
-pub returns-in-Refused : goal.returns-in-Refused
-returns-in-Refused c =
-    refused-printed _ _ _ _ _ c.requires.blank _ c.solve.ensures.answer _ _ _ _ c.in-Refused.is c.print_refusal.ensures
+pub returns-in-Err : goal.returns-in-Err
+returns-in-Err c =
+    refused-printed _ _ _ _ _ c.requires.blank _ c.solve.ensures.answer _ _ _ _ c.in-Err.is (rw c.from.ensures at c.print_refusal.ensures)
 
-pub returns-in-Ran : goal.returns-in-Ran
-returns-in-Ran c =
-    run-printed _ _ _ _ _ c.requires.blank _ c.solve.ensures.answer _ _ _ _ _ c.in-Ran.is c.solve.ensures.plan c.print_run.ensures
+pub returns-in-Ok : goal.returns-in-Ok
+returns-in-Ok c =
+    run-printed _ _ _ _ _ c.requires.blank _ c.solve.ensures.answer _ _ _ _ _ c.in-Ok.is c.solve.ensures.plan c.print_run.ensures
