@@ -6,7 +6,7 @@ use native.Mathlib.Omega.{arith}
 use mathlib.Core.List.{List, [], ◌∷◌, ◌++◌}
 use lib.ListN.{length, get_or, take, drop, take-append-drop}
 use Rattle.model.specs.Plan.{Route}
-use Rattle.model.specs.Legs.{leg_at, depot}
+use Rattle.model.specs.Legs.{leg_at, depot, LegTable}
 use Rattle.model.specs.Live.{put_in}
 use Rattle.model.proofs.Live.{length-put_in}
 use Rattle.distance.specs.Ways.{table_legs, last_place}
@@ -62,12 +62,12 @@ module _ (t : List ℕ) where
       )
 
 -- what `length_with` adds up
-module _ {t : List ℕ} {k : ℕ} {r : Route} {d i s : ℕ} (I : Insertable t k r d i s) where
+module _ {t : List ℕ} (L : LegTable t) {k : ℕ} {r : Route} {d i s : ℕ} (I : Insertable t k r d i s) where
   pub old-small : d ≤ 13000000
-  old-small = omega (arith, I.way, way-small t I.legs (depot k) r (depot k), I.route.few)
+  old-small = omega (arith, I.way, way-small t L (depot k) r (depot k), I.route.few)
 
   pub new-small : table_legs t (depot k) (put_in i s r) (depot k) ≤ 16000000
-  new-small = omega (arith, way-small t I.legs (depot k) (put_in i s r) (depot k), length-put_in i s r, I.route.few)
+  new-small = omega (arith, way-small t L (depot k) (put_in i s r) (depot k), length-put_in i s r, I.route.few)
 
   module _ (from to : ℕ) (a : from ≡ last_place (depot k) (take i r)) (b : to ≡ get_or r i (depot k)) where
     pub inserted : table_legs t (depot k) (put_in i s r) (depot k) + leg_at t from to ≡ d + leg_at t from s + leg_at t s to

@@ -7,15 +7,18 @@ use mathlib.Core.List.{List}
 use lib.Ieee.{Float, binary64, add, sub}
 use lib.ListN.{length}
 use Rattle.model.specs.declared.Prices.{Prices}
-use Rattle.model.specs.Whole.{whole, exact, amount}
+use Rattle.model.specs.Whole.{whole, exact, amount, IsWhole}
 use Rattle.model.specs.Plan.{Plan, Route, route_of, placed}
 use Rattle.model.specs.Legs.{depot}
 use Rattle.model.specs.Cost.{price, missed_cost}
 use Rattle.model.specs.Live.{live_count, put_in, placing}
 use Rattle.model.proofs.Cost.{missed_cost-is}
 use Rattle.model.proofs.Live.{added-at}
-use Rattle.whole.proofs.Laws.{add-whole, sub-whole, whole-amount}
+use Rattle.whole.proofs.Laws.{add-whole, sub-whole, amount-is, whole-amount}
+use Rattle.distance.specs.declared.tariff.Tariff.{Tariff}
 use Rattle.distance.specs.Ways.{table_legs}
+use Rattle.solution.specs.declared.plan.Plan as held
+use Rattle.solution.specs.Held.{routes}
 use Rattle.delivery.specs.Costs.{table_price, table_driving, table_live}
 use Rattle.delivery.proofs.Live.{table_live-is}
 use Rattle.delivery.proofs.Laws.{price-small}
@@ -56,21 +59,39 @@ module _ (t : List ℕ) (p : Prices) where
 
 -- ---- in f64: no difference is below 0, and all is exact
 
-module _ {t : List ℕ} {p : Prices} {k : ℕ} {r : Route} {c : Float} {s : ℕ} {b : Float} (T : Triable t p k r c s b) where
-  module _ (i d e : ℕ) (x y : Float) (D : d ≡ table_legs t (depot k) r (depot k)) (X : x ≡ whole (price p d))
-      (E : e ≡ table_legs t (depot k) (put_in i s r) (depot k)) (short : e ≤ 16000000) (Y : y ≡ whole (price p e)) where
-    new-small : table_price t p k (put_in i s r) ≤ 4112000000000000
-    new-small = rw (← E) (price-small p T.prices e short)
+module _ {t : Tariff} {p : held.Plan} {k : ℕ} {c : Float} {s : ℕ} {b : Float} (T : Triable t p k c s b) where
+  abbrev r : Route
+  r = route_of (routes p) k
 
-    pub cost-small : cost_with t p k r (amount c) s i ≤ exact
+  -- what the plan costs with the stop at position i
+  abbrev with_stop : ℕ → ℕ
+  with_stop i = cost_with t.legs.table t.prices k r (amount c) s i
+
+  -- q is that route, as the code reads it
+  module _ (q : Route) (Q : q ≡ route_of (routes p) k) (i d e : ℕ) (x y : Float) (D : d ≡ table_legs t.legs.table (depot k) q (depot k)) (X : x ≡ whole (price t.prices d))
+      (E : e ≡ table_legs t.legs.table (depot k) (put_in i s q) (depot k)) (short : e ≤ 16000000) (Y : y ≡ whole (price t.prices e)) where
+    old-price : x ≡ whole (table_price t.legs.table t.prices k r)
+    old-price = X ∙ ap (λ (m : ℕ). whole (price t.prices m)) (rw Q at D)
+
+    new-price : y ≡ whole (table_price t.legs.table t.prices k (put_in i s r))
+    new-price = Y ∙ ap (λ (m : ℕ). whole (price t.prices m)) (rw Q at E)
+
+    new-small : table_price t.legs.table t.prices k (put_in i s r) ≤ 4112000000000000
+    new-small = rw (← Q, ← E) (price-small t.prices t.affordable e short)
+
+    cost-small : with_stop i ≤ exact
     cost-small = omega (arith, new-small, T.small)
 
-    pub cost-exact : add binary64 (sub binary64 c x) y ≡ whole (cost_with t p k r (amount c) s i)
+    cost-exact : add binary64 (sub binary64 c x) y ≡ whole (with_stop i)
     cost-exact =
-        let w = amount c - table_price t p k r in
-        let f : sub binary64 c x ≡ whole w =
-        ap₂ (sub binary64) (sym (whole-amount c T.left)) (X ∙ ap (λ (m : ℕ). whole (price p m)) D)
-        ∙ sub-whole (amount c) (table_price t p k r) (omega (arith, T.small)) (omega (arith, T.small, T.own)) T.own
-        in
-        ap₂ (add binary64) f (Y ∙ ap (λ (m : ℕ). whole (price p m)) E)
-        ∙ add-whole w (table_price t p k (put_in i s r)) (omega (arith, T.small)) (omega (arith, new-small))
+        let own : ℕ = table_price t.legs.table t.prices k r in
+        ap₂ (add binary64)
+        (ap₂ (sub binary64) (sym (whole-amount c T.left)) old-price ∙ sub-whole (amount c) own (omega (arith, T.small)) (omega (arith, T.small, T.own)) T.own)
+        new-price
+        ∙ add-whole (amount c - own) (table_price t.legs.table t.prices k (put_in i s r)) (omega (arith, T.small)) (omega (arith, new-small))
+
+    pub cost-whole : IsWhole (add binary64 (sub binary64 c x) y)
+    cost-whole = (with_stop i, cost-small, cost-exact)
+
+    pub cost-amount : amount (add binary64 (sub binary64 c x) y) ≡ cost_with t.legs.table t.prices k (route_of (routes p) k) (amount c) s i
+    cost-amount = amount-is _ (with_stop i) cost-small cost-exact

@@ -6,23 +6,25 @@
 ghost use Rattle.std.specs.Prelude.{◌≡◌, suc, ◌≤◌, ◌<◌, length, get_or, take};
 ghost use Rattle.model.specs.Whole.{whole, IsWhole, amount};
 ghost use Rattle.model.specs.Job.{Job};
-ghost use Rattle.model.specs.Plan.{encode, decode};
+ghost use Rattle.model.specs.Plan.{route_of};
 ghost use Rattle.model.specs.StopSet.{including};
-ghost use Rattle.model.specs.Legs.{depot, Fits};
+ghost use Rattle.model.specs.Legs.{depot};
 ghost use Rattle.model.specs.Live.{put_in, live_cost, arrived};
 ghost use Rattle.distance.specs.Ways.{table_legs, last_place, Drivable};
+ghost use Rattle.solution.specs.Held.{routes, Becomes};
 ghost use Rattle.delivery.specs.Costs.{table_live};
+ghost use Rattle.delivery.specs.Held.{IsJobOf};
 ghost use Rattle.arrival.specs.Arriving.{Arriving};
-ghost use Rattle.arrival.specs.Places.{Insertable, triple, better, tried_on, Triable, Cheapest};
+ghost use Rattle.arrival.specs.Places.{Insertable, counted, better, tried_on, Triable, Cheapest};
 
-use model::Prices;
+use distance::{Legs, Tariff};
+use solution::{Place, Plan};
 
-// The best so far: the vehicle and the place of a stop, and what the plan costs with it there. Vehicle v stands for no place.
+// A place for a stop, or none, and what the plan costs with the stop there.
 #[derive(Clone, Copy)]
-pub struct Best {
-    pub vehicle: usize,
-    pub place: usize,
-    pub cost: f64,
+struct Candidate {
+    place: Option<Place>,
+    cost: f64,
 }
 
 // Where vehicle k comes from to a place of its route.
@@ -48,112 +50,88 @@ fn goes_to(k: usize, route: &[u32], place: usize) -> usize
 }
 
 // The length of a route that is `length` long, with a stop put in at a place: two legs come, one goes.
-fn length_with(legs: &[u32], k: usize, route: &[u32], length: u32, place: usize, stop: u32) -> u32
-    requires { Insertable legs.now k route.now length place stop }
-    ensures { (result ≡ table_legs legs.now (depot k) (put_in place stop route.now) (depot k)) × (result ≤ 16000000) }
+fn length_with(legs: &Legs, k: usize, route: &[u32], length: u32, place: usize, stop: u32) -> u32
+    requires { Insertable legs.now.table k route.now length place stop }
+    ensures { (result ≡ table_legs legs.now.table (depot k) (put_in place stop route.now) (depot k)) × (result ≤ 16000000) }
 {
     let from = comes_from(k, route, place);
     let to = goes_to(k, route, place);
     let s = stop as usize;
-    length + distance::leg(legs, from, s) + distance::leg(legs, s, to)
-        - distance::leg(legs, from, to)
+    length + legs.leg(from, s) + legs.leg(s, to) - legs.leg(from, to)
 }
 
-// The better of a place and the best so far: a place replaces no place also where both cost the same, another place only where it is
-// strictly cheaper.
-fn better(v: usize, new: Best, best: Best) -> Best
+// The better of a new candidate and the best so far: it replaces no place also where both cost the same, and another place only where it
+// is strictly cheaper.
+fn better(new: Candidate, best: Candidate) -> Candidate
     requires { IsWhole new.cost × IsWhole best.cost }
-    ensures { IsWhole result.cost × (triple result ≡ better v (triple new) (triple best)) }
+    ensures { IsWhole result.cost × (counted result ≡ better (counted new) (counted best)) }
 {
-    if best.vehicle == v {
-        if best.cost < new.cost {
-            return best;
-        }
-        return new;
-    }
-    if new.cost < best.cost {
-        return new;
-    }
-    best
+    let replaces = match best.place {
+        None => new.cost <= best.cost,
+        Some(_) => new.cost < best.cost,
+    };
+    if replaces { new } else { best }
 }
 
 // The best so far and all places of vehicle k's route. `left` is what the plan costs without the missed stop.
 fn best_on(
-    legs: &[u32],
-    v: usize,
-    prices: Prices,
+    tariff: &Tariff,
+    plan: &Plan,
     k: usize,
-    route: &[u32],
     left: f64,
     stop: u32,
-    best: Best,
-) -> Best
-    requires { Triable legs.now prices k route.now left stop best.cost }
-    ensures { IsWhole result.cost × (triple result ≡ tried_on legs.now prices v k route.now (amount left) stop (suc (length route.now)) (triple best)) }
+    best: Candidate,
+) -> Candidate
+    requires { Triable tariff.now plan.now k left stop best.cost }
+    ensures { IsWhole result.cost
+        × (counted result ≡ tried_on tariff.now.legs.table tariff.now.prices k (route_of (routes plan.now) k) (amount left) stop
+        (suc (length (route_of (routes plan.now) k))) (counted best)) }
 {
-    let length = distance::route_length(legs, k, route);
-    let others = left - delivery::price(length, prices);
+    let route = plan.route(k);
+    let length = tariff.legs.route_length(k, route);
+    let others = left - delivery::price(length, tariff.prices);
     let mut found = best;
-    for place in 0..=route.len() {
-        let longer = length_with(legs, k, route, length, place, stop);
-        let cost = others + delivery::price(longer, prices);
-        let new = Best {
+    for position in 0..=route.len() {
+        let longer = length_with(&tariff.legs, k, route, length, position, stop);
+        let cost = others + delivery::price(longer, tariff.prices);
+        let place = Some(Place {
             vehicle: k,
-            place,
-            cost,
-        };
-        found = better(v, new, found);
+            position,
+        });
+        found = better(Candidate { place, cost }, found);
     }
     found
 }
 
-// The best place for a stop that arrives.
-fn best_place(
-    legs: &[u32],
-    v: usize,
-    n: usize,
-    prices: Prices,
-    plan: &[u32],
-    live: u64,
-    stop: u32,
-) -> Best
-    requires { Arriving legs.now v n prices plan.now live stop }
-    ensures { Cheapest (table_live legs.now prices (including stop live)) v stop (decode v plan.now) result }
+// The best place for a stop that arrives, or none.
+fn best_place(tariff: &Tariff, plan: &Plan, live: u64, stop: u32) -> Candidate
+    requires { Arriving plan.now live stop }
+    ensures { Cheapest (table_live tariff.now.legs.table tariff.now.prices (including stop live)) stop (routes plan.now) result }
 {
     let all = stop_set::with(live, stop);
-    let unplaced = delivery::live_cost(legs, v, n, prices, plan, all);
-    let left = unplaced - delivery::missed_cost(1, prices);
-    let mut found = Best {
-        vehicle: v,
-        place: 0,
+    let unplaced = delivery::live_cost(tariff, plan, all);
+    let left = unplaced - delivery::missed_cost(1, tariff.prices);
+    let mut found = Candidate {
+        place: None,
         cost: unplaced,
     };
-    for k in 0..v {
-        let route = solution::route(plan, v, n, k);
-        found = best_on(legs, v, prices, k, route, left, stop, found);
+    for k in 0..plan.v {
+        found = best_on(tariff, plan, k, left, stop, found);
     }
     found
 }
 
 // Writes the plan after the arrival of a stop, and returns what it costs with the stop live.
-pub fn arrive(
-    legs: &[u32],
-    v: usize,
-    n: usize,
-    prices: Prices,
-    plan: &mut [u32],
-    live: u64,
-    stop: u32,
-) -> f64
-    requires { Arriving legs.now v n prices plan.old live stop }
-    ensures { (J : Job) → Fits J legs.now v n prices
-        → (plan.new ≡ encode n (arrived J live stop (decode v plan.old)))
-        × (result ≡ whole (live_cost J (including stop live) (arrived J live stop (decode v plan.old)))) }
+pub fn arrive(tariff: &Tariff, plan: &mut Plan, live: u64, stop: u32) -> f64
+    requires { Arriving plan.old live stop }
+    ensures plan_after { (J : Job) → IsJobOf J tariff.now plan.old → Becomes plan.old plan.new (arrived J live stop (routes plan.old)) }
+    ensures value { (J : Job) → IsJobOf J tariff.now plan.old
+        → result ≡ whole (live_cost J (including stop live) (arrived J live stop (routes plan.old))) }
+    ensures sizes { (plan.new.v ≡ plan.old.v) × (plan.new.n ≡ plan.old.n) }
 {
-    let best = best_place(legs, v, n, prices, plan, live, stop);
-    if best.vehicle == v {
-        return best.cost;
+    let best = best_place(tariff, plan, live, stop);
+    if let Some(place) = best.place {
+        joining::insert(plan, place.vehicle, place.position, stop);
     }
-    joining::put_in(plan, v, n, best.vehicle, best.place, stop);
     best.cost
 }

@@ -15,7 +15,8 @@ use Rattle.model.specs.Plan.{Plan, route_of, Lent, Sizes, used_part, decode}
 use Rattle.model.specs.StopSet.{contains, stops_of}
 use Rattle.model.specs.Live.{Covers, cancelled}
 use Rattle.model.specs.Roads.{bad_road, bad_entry}
-use Rattle.model.specs.Vans.{Move, Held, bad_vans, on_others_van, beyond_end, bad_move}
+use Rattle.model.specs.Vans.{Held, bad_vans, on_others_van, beyond_end, bad_move}
+use Rattle.model.specs.declared.Move.{Move}
 use Rattle.model.specs.Legs.{Affordable}
 use Rattle.model.specs.Refusals.{Arguments, naming, looking, moving, lengthening, Call, Weigh, StartPlan, TwoOpt, Rebuild, Exhaustive, Pruned, Solve, Arrive, Cancel, View, MoveStop, Roadworks, asked, refusal, within, bad_length, bad_draws, bad_prices, bad_smoothing, bad_plan, all_live, bad_live, bad_lives, bad_given, bad_arrival, bad_cancellation, too_large}
 use Rattle.model.proofs.Lists.{neither, one_same}

@@ -4,7 +4,8 @@ use mathlib.Core.List.{List}
 use Prim.Native.Nat.{ℕ}
 use Rattle.model.specs.Job.{Job, vehicle_count, stop_count}
 use Rattle.model.specs.Plan.{Lent, decode}
-use Rattle.model.specs.Vans.{Move, bad_move}
+use Rattle.model.specs.Vans.{bad_move}
+use Rattle.model.specs.declared.Move.{Move}
 use Rattle.model.specs.Refusals.{looking, moving, View, MoveStop, refusal}
 use Rattle.model.proofs.PlanForm.{lent-4, lent-11}
 

@@ -4,3 +4,4 @@ pub mod Accepted
 pub mod Answers
 pub mod Lowest
 pub mod Alike
+pub mod Held

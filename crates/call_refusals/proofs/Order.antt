@@ -10,7 +10,8 @@ use Rattle.model.proofs.Numbers.{number-some}
 use Rattle.model.specs.declared.Road.{Road}
 use Rattle.model.specs.Job.{Job, job_of, vehicle_count, stop_count}
 use Rattle.model.specs.Plan.{decode}
-use Rattle.model.specs.Vans.{Move, bad_vans, bad_move}
+use Rattle.model.specs.Vans.{bad_vans, bad_move}
+use Rattle.model.specs.declared.Move.{Move}
 use Rattle.model.specs.Roads.{bad_road, bad_entry}
 use Rattle.model.specs.Refusals.{Arguments, asking, naming, looking, moving, lengthening, stop_given, live_set, Weigh, StartPlan, TwoOpt, Rebuild, Exhaustive, Pruned, Solve, Arrive, Cancel, View, MoveStop, Roadworks, refusal, bad_vehicles, bad_stops, bad_table, bad_length, bad_seen, bad_lengths, bad_draws, bad_locations, bad_roads, bad_places, bad_distances, bad_entries, bad_legs, bad_prices, bad_plan, bad_live, bad_lent, bad_given, bad_arrival, bad_cancellation, too_large, unpriced}
 use Rattle.call_refusals.specs.Order.{of_shape, of_entries, of_road, of_job, of_numbers, first}

@@ -3,11 +3,12 @@
 
 ghost use Rattle.std.specs.Prelude.{◌≡◌, ◌≤◌, ◌<◌};
 ghost use Rattle.model.specs.Lists.{all_below};
-ghost use Rattle.model.specs.Plan.{Lent, Sizes};
 ghost use Rattle.model.specs.StopSet.{stops_of};
 ghost use Rattle.model.specs.Refusals.{bad_vehicles, bad_stops, bad_table, bad_length, bad_draws, bad_locations, bad_distances, bad_prices, bad_smoothing, bad_limit, all_live, bad_live, bad_given, bad_arrival, bad_cancellation, too_large};
+ghost use Rattle.solution.specs.Held.{numbers_of};
 
 use model::Prices;
+use solution::Plan;
 
 // Whether each number of a list is below a limit.
 fn all_below(list: &[u32], limit: u32) -> bool
@@ -95,12 +96,11 @@ fn inside(part: u64, set: u64) -> bool
     part & set == part
 }
 
-pub fn bad_live(v: usize, n: usize, live: u64, plan: &[u32]) -> bool
-    requires { Sizes v n × Lent v n plan.now }
-    ensures { result ≡ bad_live v n live plan.now }
+pub fn bad_live(live: u64, plan: &Plan) -> bool
+    ensures { result ≡ bad_live plan.now.v plan.now.n live (numbers_of plan.now) }
 {
-    let placed = solution::placed_set(plan, v, n);
-    let all = stop_set::below(n as u32);
+    let placed = plan.placed_set();
+    let all = stop_set::below(plan.n as u32);
     !(inside(placed, live) && inside(live, all))
 }
 

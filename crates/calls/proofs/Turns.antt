@@ -30,17 +30,6 @@ drop-take (suc k) (suc m) (x ∷ l) = let z : suc m - suc k ≡ m - k = omega ar
 
 -- ---- what is read on
 
-pub unmoved : (at end : ℕ) (old : List ℕ) → at ≤ end → end ≤ length old → (end ≡ length old → longest_sheet ≤ end - at) → Still at end old old at end
-unmoved at end old l w u =
-    record {
-      order = l;
-      within = w;
-      more = [];
-      same = sym (append-nil (part at end old));
-      unread = λ _. (refl, refl, refl, refl);
-      uncut = u;
-    }
-
 -- a full buffer that was read on
 pub read-on : (at end n : ℕ) (old new : List ℕ) (a : Result ℕ Error) → Refilled at old new a → a ≡ Ok n → at ≤ end → end ≡ length old
     → longest_sheet ≤ length old → Still at end old new 0 n
@@ -85,15 +74,6 @@ pub record Past (at₀ end₀ : ℕ) (old new : List ℕ) (at end printed : ℕ)
   pub input : Input at₀ end₀ old sheets (part at end new)
   pub count : printed ≡ length (printed_sheets sheets)
   pub kept : end₀ < length old → end < length new
-
-pub past-none : (at end : ℕ) (old : List ℕ) → Past at end old old at end 0
-past-none at end old =
-    record {
-      sheets = [];
-      input = record { readable = tt; more = []; text = append-nil (part at end old); unread = λ _. refl };
-      count = refl;
-      kept = λ l. l;
-    }
 
 readable-more : (Ss : List Sheet) (S : Sheet) → ReadableSheets Ss → ReadableSheet S → ReadableSheets (Ss ++ (S ∷ []))
 readable-more [] S rs r = (r, tt)
@@ -185,9 +165,6 @@ module _ (at₀ end₀ : ℕ) (old mid new : List ℕ) (at end printed : ℕ) (p
 
       pub refused : AnswersAll at₀ end₀ old (E.Refused (printed + r))
       refused = past-refused refusal.0 refusal.1 refusal.2 out text r refusal.3 refusal.4
-
-      pub refusal-within : r ≤ length out
-      refusal-within = refusal.4.fits
 
     pub done : a ≡ T.Done → AnswersAll at₀ end₀ old (E.All printed)
     done e =

@@ -3,13 +3,16 @@
 
 ghost use Rattle.std.specs.Prelude.{◌≡◌, ◌-◌, ◌≤◌};
 ghost use Rattle.model.specs.Whole.{whole};
-ghost use Rattle.model.specs.Plan.{placed, decode, Lent, Sizes};
+ghost use Rattle.model.specs.Plan.{placed};
 ghost use Rattle.model.specs.Legs.{Affordable};
 ghost use Rattle.model.specs.Cost.{price, missed_cost};
 ghost use Rattle.model.specs.Live.{live_count};
-ghost use Rattle.delivery.specs.Costs.{Ready, Drives, Costs, LiveCosts};
+ghost use Rattle.solution.specs.Held.{routes};
+ghost use Rattle.delivery.specs.Held.{IsDriving, IsCost, IsLiveCost};
 
+use distance::Tariff;
 use model::Prices;
+use solution::Plan;
 
 // What a route of that length costs, one product less than the definition has. All routes of a plan together are at most 16,000,000 long.
 pub fn price(length: u32, prices: Prices) -> f64
@@ -29,45 +32,42 @@ pub fn missed_cost(count: u32, prices: Prices) -> f64
 }
 
 // What the routes of a plan cost.
-pub fn driving_cost(legs: &[u32], v: usize, n: usize, prices: Prices, plan: &[u32]) -> f64
-    requires { Ready legs.now v n prices plan.now }
-    ensures { Drives legs.now v n prices (decode v plan.now) result }
+pub fn driving_cost(tariff: &Tariff, plan: &Plan) -> f64
+    ensures { IsDriving tariff.now plan.now result }
 {
+    let form = plan.form();
     let mut sum = 0.0;
-    let mut at = v;
-    for k in 0..v {
-        let end = at + plan[k] as usize;
-        let length = distance::route_length(legs, k, &plan[at..end]);
-        sum += price(length, prices);
+    let mut at = plan.v;
+    for k in 0..plan.v {
+        let end = at + form[k] as usize;
+        let length = tariff.legs.route_length(k, &form[at..end]);
+        sum += price(length, tariff.prices);
         at = end;
     }
     sum
 }
 
 // How many of the n stops are on no route: the ones of the set of the placed stops are counted.
-fn missed(v: usize, n: usize, plan: &[u32]) -> u32
-    requires { Sizes v n × Lent v n plan.now }
-    ensures { result ≡ n - placed (decode v plan.now) }
+fn missed(plan: &Plan) -> u32
+    ensures { result ≡ plan.now.n - placed (routes plan.now) }
 {
-    let set = solution::placed_set(plan, v, n);
-    n as u32 - stop_set::size(set)
+    plan.n as u32 - stop_set::size(plan.placed_set())
 }
 
 // What a plan costs.
-pub fn cost(legs: &[u32], v: usize, n: usize, prices: Prices, plan: &[u32]) -> f64
-    requires { Ready legs.now v n prices plan.now }
-    ensures { Costs legs.now v n prices (decode v plan.now) result }
+pub fn cost(tariff: &Tariff, plan: &Plan) -> f64
+    ensures { IsCost tariff.now plan.now result }
 {
-    let driving = driving_cost(legs, v, n, prices, plan);
-    driving + missed_cost(missed(v, n, plan), prices)
+    let driving = driving_cost(tariff, plan);
+    driving + missed_cost(missed(plan), tariff.prices)
 }
 
 // What a plan costs while the stops of a set are live, which has at least as many stops as are placed.
-pub fn live_cost(legs: &[u32], v: usize, n: usize, prices: Prices, plan: &[u32], live: u64) -> f64
-    requires { Ready legs.now v n prices plan.now × (placed (decode v plan.now) ≤ live_count live) }
-    ensures { LiveCosts legs.now v n prices live (decode v plan.now) result }
+pub fn live_cost(tariff: &Tariff, plan: &Plan, live: u64) -> f64
+    requires { placed (routes plan.now) ≤ live_count live }
+    ensures { IsLiveCost tariff.now plan.now live result }
 {
-    let driving = driving_cost(legs, v, n, prices, plan);
-    let placed = stop_set::size(solution::placed_set(plan, v, n));
-    driving + missed_cost(stop_set::size(live) - placed, prices)
+    let driving = driving_cost(tariff, plan);
+    let placed = stop_set::size(plan.placed_set());
+    driving + missed_cost(stop_set::size(live) - placed, tariff.prices)
 }

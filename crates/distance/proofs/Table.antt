@@ -1,7 +1,6 @@
 -- Laws of the leg table's places and cells.
 use mathlib.Core.Path.{◌≡◌, refl, sym, ap, ap₂, ◌∙◌}
-use Prim.Native.Nat.{ℕ, suc, ◌+◌, ◌-◌, ◌*◌, ◌/◌, ◌%◌, ◌≤◌, ◌<◌}
-use native.Mathlib.Nat.{suc-mul, mul-le-mul_right, mul-le-mul_left}
+use Prim.Native.Nat.{ℕ, ◌+◌, ◌-◌, ◌*◌, ◌/◌, ◌%◌, ◌≤◌, ◌<◌}
 use native.Mathlib.Decide.{dec_lt}
 use native.Mathlib.Omega.{arith}
 use mathlib.Core.Bool.{Bool, true, false, cond, ◌&&◌, ◌||◌}
@@ -15,18 +14,8 @@ use borrow.Author.Tests.{lt-ltb, le-ltb, le-leb, ltb-true, leb-true}
 use Rattle.model.specs.Job.{Job, job_of, vehicle_count, stop_count, entry, distance}
 use Rattle.model.specs.Legs.{leaves, reaches, leg_at, IsPlace}
 use Rattle.model.specs.declared.Prices.{Prices}
-use Rattle.distance.specs.Table.{Square, InLimits, is_place, cell, start_at, end_at, between, EndsOf, Row, LegsOf}
+use Rattle.distance.specs.Table.{InLimits, is_place, cell, start_at, end_at, between, EndsOf, Row, LegsOf}
 use Rattle.distance.proofs.Laws.{leaves-stop, reaches-stop, leaves-vehicle, reaches-vehicle}
-
--- ---- the job's table
-
--- an entry of an l by l table is inside it
-inside : (from to l : ℕ) → from < l → to < l → from * l + to < l * l
-inside from to l h k = omega (arith, mul-le-mul_right {m = suc from} l h, suc-mul from l)
-
-pub entry-inside : (l : ℕ) (ds : List ℕ) (from to : ℕ) → Square l ds → from < l → to < l
-    → (from * l + to < length ds) × (length ds ≤ 6400)
-entry-inside l ds from to S h k = omega (arith, inside from to l h k, mul-le-mul_left l S.locations)
 
 -- ---- places
 

@@ -3,6 +3,7 @@ use Rattle.std.specs.Prelude.{◌≡◌, ℕ, ◌+◌, ◌*◌, ◌/◌, ◌%◌
 use Rattle.model.specs.Job.{Job, job_of, vehicle_count, stop_count, entry, distance}
 use Rattle.model.specs.Legs.{leaves, reaches, leg_at, LegTable, Fits}
 use Rattle.model.specs.declared.Prices.{Prices}
+use Rattle.model.specs.declared.job.Network.{Network}
 
 -- the limits on a table of distances and its size l
 pub record Square (l : ℕ) (ds : List ℕ) : Type 0 where
@@ -18,6 +19,10 @@ pub record InLimits (vs ss : List ℕ) (l : ℕ) (ds : List ℕ) : Type 0 where
   pub ends : (i : ℕ) → i < length vs → get_or vs i 0 < l
   pub places : (i : ℕ) → i < length ss → get_or ss i 0 < l
   pub short : (i : ℕ) → get_or ds i 0 ≤ 200000
+
+-- a network within them
+abbrev pub Limited : Network → Type 0
+Limited N = InLimits N.vehicles.now N.stops.now N.locations N.distances.now
 
 -- whether p is a place where there are v vehicles and n stops
 abbrev pub is_place : ℕ → ℕ → ℕ → Bool
@@ -55,3 +60,7 @@ pub record LegsOf (vs ss : List ℕ) (l : ℕ) (ds table : List ℕ) : Type 0 wh
   pub legs : LegTable table
   pub fits : (p : Prices) → Fits (job_of vs ss l ds p) table (length vs / 2) (length ss) p
   pub cells : (p : Prices) (a b : ℕ) → a < 80 → b < 80 → leg_at table a b ≡ cell (job_of vs ss l ds p) a b
+
+-- The table is that of a network.
+abbrev pub TableOf : Network → List ℕ → Type 0
+TableOf N table = LegsOf N.vehicles.now N.stops.now N.locations N.distances.now table

@@ -1,28 +1,28 @@
 // Distances: the job's own table, the leg table that a run looks up once, and the length of a route over it.
 #![tactic(auto)]
 
-ghost use Rattle.std.specs.Prelude.{◌≡◌, ℕ, ◌+◌, ◌/◌, ◌≤◌, ◌<◌, length, true, List};
-ghost use Rattle.model.specs.Job.{Job, job_of, entry};
-ghost use Rattle.model.specs.Legs.{leaves, reaches, leg_at, LegTable};
+mod legs;
+mod tariff;
+mod weighing;
+
+ghost use Rattle.std.specs.Prelude.{◌≡◌, ◌+◌, ◌/◌, ◌≤◌, ◌<◌, length, true};
+ghost use Rattle.model.specs.Job.{priced, entry};
+ghost use Rattle.model.specs.Legs.{leaves, reaches};
 ghost use Rattle.model.specs.declared.Prices.{Prices};
-ghost use Rattle.distance.specs.Table.{Square, InLimits, is_place, start_at, end_at, between, EndsOf, Row, LegsOf};
-ghost use Rattle.distance.specs.Ways.{Drivable, RouteLength};
+ghost use Rattle.distance.specs.Table.{Square, Limited, is_place, start_at, end_at, between, EndsOf, Row, TableOf};
+
+pub use legs::Legs;
+use model::Network;
+pub use tariff::Tariff;
+pub use weighing::tariff_of;
 
 // The metres from one location to another. No other function reads the job's own table.
-pub fn lookup(locations: u32, distances: &[u32], from: u32, to: u32) -> u32
-    requires { Square locations distances.now × (from < locations) × (to < locations) }
-    ensures { result ≡ entry distances.now locations from to }
+pub fn lookup(network: &Network, from: u32, to: u32) -> u32
+    requires { Square network.now.locations network.now.distances.now × (from < network.now.locations) × (to < network.now.locations) }
+    ensures { result ≡ entry network.now.distances.now network.now.locations from to }
 {
-    let i = (from * locations + to) as usize;
-    distances[i]
-}
-
-// The metres of the leg from one place to another. No other function reads the leg table.
-pub fn leg(legs: &[u32], from: usize, to: usize) -> u32
-    requires { LegTable legs.now × (from < 80) × (to < 80) }
-    ensures { (result ≡ leg_at legs.now from to) × (result ≤ 200000) }
-{
-    legs[from * 80 + to]
+    let i = (from * network.locations + to) as usize;
+    network.distances[i]
 }
 
 // Whether a place is there, with v vehicles and n stops.
@@ -35,101 +35,76 @@ fn is_place(v: usize, n: usize, place: usize) -> bool
 
 // The location of a place: of a stop its own, of a vehicle its start for end 0, where legs from there begin, and its end for end 1, where
 // legs to there end.
-fn location_at(vehicles: &[u32], stops: &[u32], place: usize, end: usize) -> u32
-    requires { (length stops.now ≤ 64) × (is_place (length vehicles.now / 2) (length stops.now) place ≡ true) × (end ≤ 1) }
-    ensures from { (J : Job) → J.vehicles ≡ vehicles.now → J.stops ≡ stops.now → end ≡ 0 → result ≡ leaves J place }
-    ensures to { (J : Job) → J.vehicles ≡ vehicles.now → J.stops ≡ stops.now → end ≡ 1 → result ≡ reaches J place }
+fn location_at(network: &Network, place: usize, end: usize) -> u32
+    requires few { (length network.now.stops.now ≤ 64) × (end ≤ 1) }
+    requires there { is_place (length network.now.vehicles.now / 2) (length network.now.stops.now) place ≡ true }
+    ensures from { (p : Prices) → end ≡ 0 → result ≡ leaves (priced network.now p) place }
+    ensures to { (p : Prices) → end ≡ 1 → result ≡ reaches (priced network.now p) place }
 {
     if place < 64 {
-        return stops[place];
+        return network.stops[place];
     }
-    vehicles[2 * (place - 64) + end]
+    network.vehicles[2 * (place - 64) + end]
 }
 
-// The same, `locations` for a place that is not there. That number is no location, so that the one test that `metres` makes of it keeps such
-// places and all entries outside the table apart: an Option would be opened there, and its number tested as well.
-fn location_of(vehicles: &[u32], stops: &[u32], locations: u32, place: usize, end: usize) -> u32
-    requires { (length vehicles.now ≤ 32) × (length stops.now ≤ 64) × (end ≤ 1) }
-    ensures from { (ds : List ℕ) (p : Prices) → end ≡ 0 → result ≡ start_at (job_of vehicles.now stops.now locations ds p) place }
-    ensures to { (ds : List ℕ) (p : Prices) → end ≡ 1 → result ≡ end_at (job_of vehicles.now stops.now locations ds p) place }
+// The same, the number of locations for a place that is not there. That number is no location, so that the one test that `metres` makes of it
+// keeps such places and all entries outside the table apart: an Option would be opened there, and its number tested as well.
+fn location_of(network: &Network, place: usize, end: usize) -> u32
+    requires { (length network.now.vehicles.now ≤ 32) × (length network.now.stops.now ≤ 64) × (end ≤ 1) }
+    ensures from { (p : Prices) → end ≡ 0 → result ≡ start_at (priced network.now p) place }
+    ensures to { (p : Prices) → end ≡ 1 → result ≡ end_at (priced network.now p) place }
 {
-    if !is_place(vehicles.len() / 2, stops.len(), place) {
-        return locations;
+    if !is_place(network.vehicles.len() / 2, network.stops.len(), place) {
+        return network.locations;
     }
-    location_at(vehicles, stops, place, end)
+    location_at(network, place, end)
 }
 
 // The metres from one location to another, 0 where one of them is none.
-fn metres(locations: u32, distances: &[u32], from: u32, to: u32) -> u32
-    requires { Square locations distances.now }
-    ensures { result ≡ between distances.now locations from to }
+fn metres(network: &Network, from: u32, to: u32) -> u32
+    requires { Square network.now.locations network.now.distances.now }
+    ensures { result ≡ between network.now.distances.now network.now.locations from to }
 {
-    if from >= locations {
+    if from >= network.locations {
         return 0;
     }
-    if to >= locations {
+    if to >= network.locations {
         return 0;
     }
-    lookup(locations, distances, from, to)
+    lookup(network, from, to)
 }
 
 // Writes where a leg to each place ends, so that it is looked up once and not in every row.
-fn place_ends(vehicles: &[u32], stops: &[u32], locations: u32, ends: &mut [u32; 80])
-    requires { (length vehicles.now ≤ 32) × (length stops.now ≤ 64) × (length ends.old ≡ 80) }
-    ensures { (ds : List ℕ) (p : Prices) → EndsOf (job_of vehicles.now stops.now locations ds p) 80 ends.new }
+fn place_ends(network: &Network, ends: &mut [u32; 80])
+    requires { (length network.now.vehicles.now ≤ 32) × (length network.now.stops.now ≤ 64) × (length ends.old ≡ 80) }
+    ensures { (p : Prices) → EndsOf (priced network.now p) 80 ends.new }
 {
     for i in 0..80 {
-        ends[i] = location_of(vehicles, stops, locations, i, 1);
+        ends[i] = location_of(network, i, 1);
     }
 }
 
 // Fills a row of the leg table, which begins at `first`: the metres from a location to each of the ends.
-fn fill_row(
-    locations: u32,
-    distances: &[u32],
-    from: u32,
-    ends: &[u32; 80],
-    legs: &mut [u32],
-    first: usize,
-)
-    requires { Square locations distances.now × (length legs.old ≡ 6400) × (first + 80 ≤ 6400) }
-    ensures { Row distances.now locations from ends.now first 80 legs.old legs.new }
+fn fill_row(network: &Network, from: u32, ends: &[u32; 80], legs: &mut [u32; 6400], first: usize)
+    requires { Square network.now.locations network.now.distances.now × (length legs.old ≡ 6400) × (first + 80 ≤ 6400) }
+    ensures { Row network.now.distances.now network.now.locations from ends.now first 80 legs.old legs.new }
 {
     for i in 0..80 {
-        legs[first + i] = metres(locations, distances, from, ends[i]);
+        legs[first + i] = metres(network, from, ends[i]);
     }
 }
 
-// Fills the leg table: 80 rows of 80, place by place.
-pub fn leg_table(
-    vehicles: &[u32],
-    stops: &[u32],
-    locations: u32,
-    distances: &[u32],
-    legs: &mut [u32],
-)
-    requires { InLimits vehicles.now stops.now locations distances.now × (length legs.old ≡ 6400) }
-    ensures { LegsOf vehicles.now stops.now locations distances.now legs.new }
+// The leg table of a network: 80 rows of 80, place by place.
+pub fn legs_of(network: &Network) -> Legs
+    requires { Limited network.now }
+    ensures { TableOf network.now result.table }
 {
     let mut ends = [0u32; 80];
-    place_ends(vehicles, stops, locations, &mut ends);
+    place_ends(network, &mut ends);
+    let mut table = [0u32; 6400];
     for i in 0..80 {
-        let from = location_of(vehicles, stops, locations, i, 0);
-        fill_row(locations, distances, from, &ends, legs, 80 * i);
+        let from = location_of(network, i, 0);
+        fill_row(network, from, &ends, &mut table, 80 * i);
     }
-}
-
-// The length of a vehicle's route: from its start through the stops to its end.
-pub fn route_length(legs: &[u32], vehicle: usize, route: &[u32]) -> u32
-    requires { LegTable legs.now × (vehicle < 16) × Drivable route.now }
-    ensures { RouteLength legs.now vehicle route.now result }
-{
-    let mut sum: u32 = 0;
-    let mut here = 64 + vehicle;
-    for stop in route {
-        let next = *stop as usize;
-        sum += leg(legs, here, next);
-        here = next;
-    }
-    sum + leg(legs, here, 64 + vehicle)
+    Legs { table }
 }

@@ -11,7 +11,6 @@ use lib.Seq.{take_all}
 use Rattle.model.specs.Lists.{In, concat, count, up_from, Once}
 use Rattle.model.specs.Job.{Job, stop_count, vehicle_count}
 use Rattle.model.specs.Plan.{Plan}
-use Rattle.model.specs.declared.Region.{Region}
 use Rattle.model.specs.Region.{drained}
 use Rattle.model.specs.Rebuild.{choose, fillings, replaced, arrangements, empty_plan, all_arrangements, exhaustive}
 use Rattle.model.proofs.Lists.{length-up_from, once-up_from, count-up_from-out}
@@ -68,7 +67,7 @@ map-kept f (x ∷ xs) h = rw (h x (inl refl), map-kept f xs (λ y i. h y (inr i)
 -- ---- the full plan
 
 module _ (n : ℕ) where
-  concat-full : (v : ℕ) → concat (full_plan (suc v) n) ≡ up_from 0 n
+  pub concat-full : (v : ℕ) → concat (full_plan (suc v) n) ≡ up_from 0 n
   concat-full v = rw (concat-empty v, append-nil)
 
   pub length-full : (v : ℕ) → length (full_plan v n) ≡ v

@@ -1,26 +1,28 @@
 -- The best arrangement of the full plan is the exhaustive solver's.
-use Prim.Native.Nat.{ℕ, zero, suc, ◌*◌, ◌≤◌}
+use Prim.Native.Nat.{ℕ, zero, suc, ◌≤◌}
 use native.Mathlib.Omega.{arith}
-use mathlib.Core.Path.{◌≡◌, refl}
+use mathlib.Core.Path.{◌≡◌, ap, ◌∙◌}
 use mathlib.Core.Logic.{inl, inr}
-use mathlib.Core.List.{List, [], ◌∷◌}
-use lib.ListN.{length}
+use mathlib.Core.List.{[], ◌∷◌}
 use Rattle.model.specs.Lists.{In}
 use Rattle.model.specs.Whole.{whole}
 use Rattle.model.specs.Job.{Job}
-use Rattle.model.specs.Plan.{encode, decode}
+use Rattle.model.specs.Plan.{encode}
 use Rattle.model.specs.declared.Region.{Region}
 use Rattle.model.specs.declared.Walk.{Walk}
 use Rattle.model.specs.Region.{Stretch, Stretches}
-use Rattle.model.specs.Legs.{Fits, Solvable}
+use Rattle.model.specs.Legs.{Fits}
 use Rattle.model.specs.Cost.{cost}
-use Rattle.model.specs.Rebuild.{exhaustive}
-use Rattle.model.specs.declared.Prices.{Prices}
+use Rattle.model.specs.Rebuild.{choose, arrangements, exhaustive}
 use Rattle.model.proofs.Lists.{length-up_from}
-use Rattle.model.proofs.PlanForm.{decode-encode, lent-encode}
+use Rattle.distance.specs.declared.tariff.Tariff.{Tariff}
+use Rattle.solution.specs.declared.plan.Plan.{Plan}
+use Rattle.solution.specs.Held.{numbers_of, routes, Holds}
+use Rattle.solution.proofs.Holding.{holds-routes}
+use Rattle.delivery.specs.Held.{IsJobOf}
 use Rattle.rebuild_arrange.specs.Arranged.{Arrangeable, Arranged}
 use Rattle.exhaustive.specs.Full.{full_plan, full_regions}
-use Rattle.exhaustive.proofs.Arranging.{regions-each, length-full, once-full, below-full, drained-full, full-chosen}
+use Rattle.exhaustive.proofs.Arranging.{regions-each, length-full, drained-full, full-chosen}
 
 -- each of them a whole route
 module _ (v n : ℕ) where
@@ -68,25 +70,29 @@ stretches (suc (suc (suc zero))) n h = record { apart = (apart, (apart-two, (λ 
     three g (inr (inr (inr i))) = absurd i
 stretches (suc (suc (suc (suc v)))) n h = absurd (omega arith)
 
-module _ (t : List ℕ) (v n : ℕ) (p : Prices) (zs : List ℕ) (G : Solvable t v n p zs) (xs : List ℕ) (e : xs ≡ encode n (full_plan v n)) where
-  decoded : decode v xs ≡ full_plan v n
-  decoded = rw e (decode-encode n (full_plan v n) v (length-full n v))
+module _ (v n : ℕ) (hv : v ≤ 3) (hn : n ≤ 6) (p : Plan) (h : Holds v n (full_plan v n) p) where
+  full-routes : routes p ≡ full_plan v n
+  full-routes = holds-routes v n (full_plan v n) p h (length-full n v)
 
-  pub arrangeable : Arrangeable t v n p xs (full_regions v n)
+  pub arrangeable : Arrangeable p (full_regions v n)
   arrangeable =
       record {
-        legs = G.legs;
-        prices = G.prices;
-        gapped = record {
-          sizes = record { vehicles = omega (arith, G.vehicles); stops = omega (arith, G.stops) };
-          plan = rw e (lent-encode v n (full_plan v n) (length-full n v) (once-full n v) (below-full n v));
-          few = omega (arith, regions-each v n G.vehicles, G.vehicles);
-          stretches = rw decoded (stretches v n G.vehicles);
-        };
-        few = rw decoded (omega (arith, drained-full n v G.vehicles, G.stops));
+        gapped = record { few = omega (arith, regions-each v n hv); stretches = rw full-routes (stretches v n hv) };
+        few = rw full-routes (omega (arith, drained-full n v hv));
       }
 
-  pub chosen : (ys : List ℕ) (r : Walk) → Arranged t v n p xs (full_regions v n) ys r → (J : Job) → Fits J t v n p
-      → (ys ≡ encode n (exhaustive J)) × (r.cost ≡ whole (cost J (exhaustive J)))
-  chosen ys r A J F =
-      (rw (decoded, full-chosen v n G.vehicles J F.vehicles F.stops) at (A.best J F), rw (decoded, full-chosen v n G.vehicles J F.vehicles F.stops) at (A.cost J F))
+  module _ (t : Tariff) (new : Plan) (r : Walk) (A : Arranged t p (full_regions v n) new r) where
+    pub chosen-sizes : (new.v ≡ v) × (new.n ≡ n)
+    chosen-sizes = (A.vehicles ∙ h.vehicles, A.stops ∙ h.stops)
+
+    pub chosen : (J : Job) → Fits J t.legs.table v n t.prices → Holds v n (exhaustive J) new × (r.cost ≡ whole (cost J (exhaustive J)))
+    chosen J F =
+        let G : IsJobOf J t p = rw (h.vehicles, h.stops) F in
+        let e = full-chosen v n hv J F.vehicles F.stops in
+        let form : numbers_of new ≡ encode n (exhaustive J) =
+        (A.best J G).form
+        ∙ ap (λ m. encode m (choose J (routes p) (arrangements (routes p) (full_regions v n)))) h.stops
+        ∙ ap (λ P. encode n (choose J P (arrangements P (full_regions v n)))) full-routes
+        ∙ ap (encode n) e
+        in
+        (record { vehicles = chosen-sizes.0; stops = chosen-sizes.1; form = form }, rw (full-routes, e) at (A.cost J G))

@@ -1,37 +1,42 @@
 // The exhaustive solver: the choice among all arrangements of all stops on all vehicles.
 #![tactic(auto)]
 
-ghost use Rattle.std.specs.Prelude.{◌≡◌, ◌+◌, ◌≤◌, length};
+ghost use Rattle.std.specs.Prelude.{◌≡◌, ◌≤◌};
 ghost use Rattle.model.specs.Whole.{whole};
 ghost use Rattle.model.specs.Job.{Job};
-ghost use Rattle.model.specs.Plan.{encode};
-ghost use Rattle.model.specs.Legs.{Fits, Solvable};
+ghost use Rattle.model.specs.Legs.{Fits};
 ghost use Rattle.model.specs.Cost.{cost};
 ghost use Rattle.model.specs.Rebuild.{exhaustive};
+ghost use Rattle.solution.specs.Held.{Holds};
 ghost use Rattle.exhaustive.specs.Full.{full_plan};
 
-use model::{Prices, Region};
+use distance::Tariff;
+use model::Region;
+use solution::Plan;
 
-// Writes the plan with every stop on the first vehicle, where there is one.
-fn full(plan: &mut [u32], v: usize, n: usize)
-    requires { (v ≤ 3) × (n ≤ 6) × (length plan.old ≡ v + n) }
-    ensures { plan.new ≡ encode n (full_plan v n) }
+// The plan with every stop on the first vehicle, where there is one.
+fn full(v: usize, n: usize) -> Plan
+    requires { (v ≤ 3) × (n ≤ 6) }
+    ensures { Holds v n (full_plan v n) result }
 {
-    let stops = [0u32, 1, 2, 3, 4, 5];
-    joining::empty(plan, v, n);
+    let mut plan = joining::blank(v, n);
     if v == 0 {
-        return;
+        return plan;
     }
-    plan[0] = n as u32;
-    pasting::paste(plan, v, &stops[..n]);
+    for stop in 0..n as u32 {
+        joining::append(&mut plan, 0, stop);
+    }
+    plan
 }
 
-// Writes the plan that the exhaustive solver chooses, and returns its cost.
-pub fn exhaustive(legs: &[u32], v: usize, n: usize, prices: Prices, plan: &mut [u32]) -> f64
-    requires { Solvable legs.now v n prices plan.old }
-    ensures { (J : Job) → Fits J legs.now v n prices → (plan.new ≡ encode n (exhaustive J)) × (result ≡ whole (cost J (exhaustive J))) }
+// The plan that the exhaustive solver chooses, and its cost.
+pub fn exhaustive(tariff: &Tariff, v: usize, n: usize) -> (Plan, f64)
+    requires { (v ≤ 3) × (n ≤ 6) }
+    ensures sizes { (result.0.v ≡ v) × (result.0.n ≡ n) }
+    ensures chosen { (J : Job) → Fits J tariff.now.legs.table v n tariff.now.prices
+        → Holds v n (exhaustive J) result.0 × (result.1 ≡ whole (cost J (exhaustive J))) }
 {
-    full(plan, v, n);
+    let mut plan = full(v, n);
     let regions = [
         Region {
             vehicle: 0,
@@ -49,6 +54,6 @@ pub fn exhaustive(legs: &[u32], v: usize, n: usize, prices: Prices, plan: &mut [
             to: 0,
         },
     ];
-    let walk = rebuild_arrange::rearrange(legs, v, n, prices, plan, &regions[..v]);
-    walk.cost
+    let walk = rebuild_arrange::rearrange(tariff, &mut plan, &regions[..v]);
+    (plan, walk.cost)
 }

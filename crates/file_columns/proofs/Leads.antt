@@ -61,10 +61,6 @@ pub space-column : (value byte : ℕ) → value ≡ 0 → byte ≡ space → Nex
 unfolding last_column
 space-column value byte v b = (omega arith, λ w. rw (v, b) (lead-last w 0))
 
-pub last_column-none : last_column 0 ≡ space
-unfolding last_column
-last_column-none = refl
-
 pub last_column-positive : (n : ℕ) → 0 < n → last_column n ≡ digit (n % 10)
 unfolding last_column
 last_column-positive zero l = absurd (omega arith)

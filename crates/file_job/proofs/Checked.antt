@@ -13,7 +13,7 @@ use Rattle.model.proofs.Tasks.{Placed, placed, stands, file-length, first-fittin
 use Rattle.std.proofs.Common.{Option, Some, None, Ok, Err}
 use Rattle.model.specs.declared.refusal.Refusal.TheVariants.{File}
 use Rattle.file_job.specs.declared.FirstNumbers.{FirstNumbers}
-use Rattle.file_job.specs.declared.Header.{Header}
+use Rattle.file_job.specs.declared.header.Header.{Header}
 use Rattle.file_job.specs.Reading.{first_list, InRange, FirstAt, TablesAt, IsDraws, DrawsAt, CheckedAt}
 
 -- the first line's numbers of a task

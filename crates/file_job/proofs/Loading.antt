@@ -1,19 +1,30 @@
--- The lists of a task that was checked: where they stand, and that they are what is written.
-use mathlib.Core.Path.{◌≡◌, sym, ◌∙◌, ap}
+-- The lists of a task that was checked: where they stand, and that what is written is the task's own.
+use mathlib.Core.Path.{◌≡◌, sym, ◌∙◌, ap, subst}
 use Prim.Native.Nat.{ℕ, ◌+◌, ◌*◌, ◌≤◌}
 use native.Mathlib.Nat.{mul-le-mul}
 use native.Mathlib.Omega.{arith}
-use mathlib.Core.List.{List, ◌++◌}
-use lib.ListN.{length, drop}
-use Rattle.model.specs.Job.{vehicle_count, stop_count}
-use Rattle.model.specs.Run.{Task}
+use mathlib.Core.List.{List}
+use lib.ListN.{length, take, drop}
+use lib.Seq.{take_at}
+use Rattle.std.proofs.Common.{Ok}
+use Rattle.model.specs.Job.{job_of, vehicle_count, stop_count}
+use Rattle.model.specs.Run.{Task, task_for}
 use Rattle.model.specs.File.{line, lines, first_numbers, NoneOver, Stands, AcceptedAt}
 use Rattle.model.proofs.Pieces.{stands-within, line-length}
 use Rattle.model.proofs.Tasks.{Placed, placed, first-fitting, draw-parts, stops_at, distances_at, count_at, draws_at}
-use Rattle.file_job.specs.declared.Header.{Header}
-use Rattle.file_lines.specs.Standing.{Fillable, Filled, over}
-use Rattle.file_job.specs.Reading.{header_of, Buffers, Room, Loadable, Loads}
+use Rattle.file_job.specs.declared.header.Header.{Header}
+use Rattle.file_lines.specs.Standing.{Fillable, Filled}
+use Rattle.file_job.specs.Reading.{header_of, CheckedAt}
 use Rattle.file_job.proofs.Checked.{table-bytes}
+
+-- the task of a header and of the lists that begin with its own
+abbrev pub task_in : Header → List ℕ → List ℕ → List ℕ → List ℕ → Task
+task_in h vs ss ds rs =
+    task_for
+    (job_of (take (h.vehicles * 2) vs) (take h.stops ss) h.locations (take (h.locations * h.locations) ds) h.prices)
+    h.smoothing
+    h.limit
+    (take h.draws rs)
 
 -- what a header that was read says of the sizes
 pub record Sizes (bytes : List ℕ) (at : ℕ) (h : Header) : Type 0 where
@@ -45,91 +56,99 @@ module _ (bytes : List ℕ) (at : ℕ) (h : Header) (T : Task) (a : AcceptedAt b
         );
       }
 
-  module _ (m : Buffers) (room : Room m) where
-    vehicles-of : Fillable bytes (at + 113) h.vehicles 2 m.vehicles
-    vehicles-of =
-        let r = a.2 in
-        rw e (
-        record {
-          there = record { numbers = T.job.vehicles; count = r.ends; small = r.vehicle_numbers; stand = p.vehicles };
-          room = omega (arith, r.vehicles, room.vehicles);
-        })
+  vehicles-of : (list : List ℕ) → 32 ≤ length list → Fillable bytes (at + 113) h.vehicles 2 list
+  vehicles-of list room =
+      let r = a.2 in
+      rw e (
+      record {
+        there = record { numbers = T.job.vehicles; count = r.ends; small = r.vehicle_numbers; stand = p.vehicles };
+        room = omega (arith, r.vehicles, room);
+      })
 
-    stops-of : Fillable bytes (stops_at at h.vehicles) h.stops 1 m.stops
-    stops-of =
-        let r = a.2 in
-        rw e (
-        record {
-          there = record { numbers = T.job.stops; count = omega arith; small = r.stop_numbers; stand = p.stops };
-          room = omega (arith, r.stops, room.stops);
-        })
+  stops-of : (list : List ℕ) → 64 ≤ length list → Fillable bytes (stops_at at h.vehicles) h.stops 1 list
+  stops-of list room =
+      let r = a.2 in
+      rw e (
+      record {
+        there = record { numbers = T.job.stops; count = omega arith; small = r.stop_numbers; stand = p.stops };
+        room = omega (arith, r.stops, room);
+      })
 
-    distances-of : Fillable bytes (distances_at at h.vehicles h.stops) h.locations h.locations m.distances
-    distances-of =
-        let r = a.2 in
-        rw e (
-        record {
-          there = record { numbers = T.job.distances; count = r.square; small = r.distance_numbers; stand = p.distances };
-          room = omega (arith, mul-le-mul r.locations r.locations, room.distances);
-        })
+  distances-of : (list : List ℕ) → 6400 ≤ length list → Fillable bytes (distances_at at h.vehicles h.stops) h.locations h.locations list
+  distances-of list room =
+      let r = a.2 in
+      rw e (
+      record {
+        there = record { numbers = T.job.distances; count = r.square; small = r.distance_numbers; stand = p.distances };
+        room = omega (arith, mul-le-mul r.locations r.locations, room);
+      })
 
-    draws-of : Fillable bytes (draws_at at h.vehicles h.stops h.locations) h.draws 1 m.draws
-    draws-of =
-        let r = a.2 in
-        rw e (
-        record {
-          there = record {
-            numbers = T.draws;
-            count = omega arith;
-            small = r.draw_numbers;
-            stand = (draw-parts T.draws r.draws bytes (count_at at (vehicle_count T.job) (stop_count T.job) T.job.locations) p.draws).1;
-          };
-          room = omega (arith, r.draws, room.draws);
-        })
+  draws-of : (list : List ℕ) → 1024 ≤ length list → Fillable bytes (draws_at at h.vehicles h.stops h.locations) h.draws 1 list
+  draws-of list room =
+      let r = a.2 in
+      rw e (
+      record {
+        there = record {
+          numbers = T.draws;
+          count = omega arith;
+          small = r.draw_numbers;
+          stand = (draw-parts T.draws r.draws bytes (count_at at (vehicle_count T.job) (stop_count T.job) T.job.locations) p.draws).1;
+        };
+        room = omega (arith, r.draws, room);
+      })
 
-module _ (bytes : List ℕ) (at : ℕ) (h : Header) (m : Buffers) (ok : Loadable bytes at h m) where
+-- lines that hold a list are written as that list to the front
+filled-front : (bytes : List ℕ) (at m k j : ℕ) (old new ns : List ℕ) → Filled bytes at m k old new → j ≡ m * k → length ns ≡ m * k → NoneOver ns
+    → Stands bytes at (lines m k ns) → take j new ≡ ns
+filled-front bytes at m k j old new ns f e c o s = ap (take j) (f ns c o s) ∙ take_at ns (drop (m * k) old) j (c ∙ sym e)
+
+module _ (bytes : List ℕ) (at : ℕ) (h : Header) (ok : CheckedAt bytes at (Ok h)) where
   pub sizes : Sizes bytes at h
-  sizes = let c = ok.checked in sizes-of bytes at h c.0 c.1 c.2
+  sizes = sizes-of bytes at h ok.0 ok.1 ok.2
 
-  pub vehicles-there : Fillable bytes (at + 113) h.vehicles 2 m.vehicles
-  vehicles-there = let c = ok.checked in vehicles-of bytes at h c.0 c.1 c.2 m ok.room
+  pub vehicles-there : (list : List ℕ) → 32 ≤ length list → Fillable bytes (at + 113) h.vehicles 2 list
+  vehicles-there = vehicles-of bytes at h ok.0 ok.1 ok.2
 
-  pub stops-there : Fillable bytes (stops_at at h.vehicles) h.stops 1 m.stops
-  stops-there = let c = ok.checked in stops-of bytes at h c.0 c.1 c.2 m ok.room
+  pub stops-there : (list : List ℕ) → 64 ≤ length list → Fillable bytes (stops_at at h.vehicles) h.stops 1 list
+  stops-there = stops-of bytes at h ok.0 ok.1 ok.2
 
-  pub distances-there : Fillable bytes (distances_at at h.vehicles h.stops) h.locations h.locations m.distances
-  distances-there = let c = ok.checked in distances-of bytes at h c.0 c.1 c.2 m ok.room
+  pub distances-there : (list : List ℕ) → 6400 ≤ length list → Fillable bytes (distances_at at h.vehicles h.stops) h.locations h.locations list
+  distances-there = distances-of bytes at h ok.0 ok.1 ok.2
 
-  pub draws-there : Fillable bytes (draws_at at h.vehicles h.stops h.locations) h.draws 1 m.draws
-  draws-there = let c = ok.checked in draws-of bytes at h c.0 c.1 c.2 m ok.room
+  pub draws-there : (list : List ℕ) → 1024 ≤ length list → Fillable bytes (draws_at at h.vehicles h.stops h.locations) h.draws 1 list
+  draws-there = draws-of bytes at h ok.0 ok.1 ok.2
 
--- lines that hold a list are written as that list over the old one
-filled-over : (bytes : List ℕ) (at m k : ℕ) (old new ns : List ℕ) → Filled bytes at m k old new → length ns ≡ m * k → NoneOver ns
-    → Stands bytes at (lines m k ns) → new ≡ over ns old
-filled-over bytes at m k old new ns f c o s = f ns c o s ∙ ap (λ n. ns ++ drop n old) (sym c)
+  -- the lists that were written are those of the task whose file stands there
+  module _ (vs0 vs ss0 ss ds0 ds rs0 rs : List ℕ)
+      (fv : Filled bytes (at + 113) h.vehicles 2 vs0 vs)
+      (fs : Filled bytes (stops_at at h.vehicles) h.stops 1 ss0 ss)
+      (fd : Filled bytes (distances_at at h.vehicles h.stops) h.locations h.locations ds0 ds)
+      (fr : Filled bytes (draws_at at h.vehicles h.stops h.locations) h.draws 1 rs0 rs) where
+    loaded : task_in h vs ss ds rs ≡ ok.0
+    loaded =
+        let T = ok.0 in
+        let e = ok.2 in
+        let r = ok.1.2 in
+        let p = placed T r bytes at ok.1.0 in
+        let v : h.vehicles ≡ vehicle_count T.job = ap (λ x. x.vehicles) e in
+        let n : h.stops ≡ stop_count T.job = ap (λ x. x.stops) e in
+        let l : h.locations ≡ T.job.locations = ap (λ x. x.locations) e in
+        let d : h.draws ≡ length T.draws = ap (λ x. x.draws) e in
+        let counted = count_at at (vehicle_count T.job) (stop_count T.job) T.job.locations in
+        let vehicles : take (h.vehicles * 2) vs ≡ T.job.vehicles =
+        filled-front bytes (at + 113) (vehicle_count T.job) 2 (h.vehicles * 2) vs0 vs T.job.vehicles
+        (rw v at fv) (ap (λ k. k * 2) v) r.ends r.vehicle_numbers p.vehicles in
+        let stops : take h.stops ss ≡ T.job.stops =
+        filled-front bytes (stops_at at (vehicle_count T.job)) (stop_count T.job) 1 h.stops ss0 ss T.job.stops
+        (rw (v, n) at fs) (omega (arith, n)) (omega arith) r.stop_numbers p.stops in
+        let distances : take (h.locations * h.locations) ds ≡ T.job.distances =
+        filled-front bytes (distances_at at (vehicle_count T.job) (stop_count T.job)) T.job.locations T.job.locations (h.locations * h.locations)
+        ds0 ds T.job.distances (rw (v, n, l) at fd) (ap (λ k. k * k) l) r.square r.distance_numbers p.distances in
+        let draws : take h.draws rs ≡ T.draws =
+        filled-front bytes (counted + 15) (length T.draws) 1 h.draws rs0 rs T.draws
+        (rw (v, n, l, d) at fr) (omega (arith, d)) (omega arith) r.draw_numbers
+        (draw-parts T.draws r.draws bytes counted p.draws).1 in
+        λ i. task_for (job_of (vehicles i) (stops i) (e i).locations (distances i) (e i).prices) (e i).smoothing (e i).limit (draws i)
 
-pub loads-all : (bytes : List ℕ) (at : ℕ) (h : Header) (old new : Buffers)
-    → Filled bytes (at + 113) h.vehicles 2 old.vehicles new.vehicles
-    → Filled bytes (stops_at at h.vehicles) h.stops 1 old.stops new.stops
-    → Filled bytes (distances_at at h.vehicles h.stops) h.locations h.locations old.distances new.distances
-    → Filled bytes (draws_at at h.vehicles h.stops h.locations) h.draws 1 old.draws new.draws
-    → Loads bytes at h old new
-loads-all bytes at h old new fv fs fd fr T a e =
-    let r = a.2 in
-    let p = placed T r bytes at a.0 in
-    let v : h.vehicles ≡ vehicle_count T.job = ap (λ x. x.vehicles) e in
-    let n : h.stops ≡ stop_count T.job = ap (λ x. x.stops) e in
-    let l : h.locations ≡ T.job.locations = ap (λ x. x.locations) e in
-    let d : h.draws ≡ length T.draws = ap (λ x. x.draws) e in
-    let counted = count_at at (vehicle_count T.job) (stop_count T.job) T.job.locations in
-    let vehicles : new.vehicles ≡ over T.job.vehicles old.vehicles =
-    filled-over bytes (at + 113) (vehicle_count T.job) 2 old.vehicles new.vehicles T.job.vehicles (rw v at fv) r.ends r.vehicle_numbers p.vehicles in
-    let stops : new.stops ≡ over T.job.stops old.stops =
-    filled-over bytes (stops_at at (vehicle_count T.job)) (stop_count T.job) 1 old.stops new.stops T.job.stops (rw (v, n) at fs) (omega arith) r.stop_numbers p.stops in
-    let distances : new.distances ≡ over T.job.distances old.distances =
-    filled-over bytes (distances_at at (vehicle_count T.job) (stop_count T.job)) T.job.locations T.job.locations
-    old.distances new.distances T.job.distances (rw (v, n, l) at fd) r.square r.distance_numbers p.distances in
-    let draws : new.draws ≡ over T.draws old.draws =
-    filled-over bytes (counted + 15) (length T.draws) 1 old.draws new.draws T.draws (rw (v, n, l, d) at fr) (omega arith) r.draw_numbers
-    (draw-parts T.draws r.draws bytes counted p.draws).1 in
-    λ i. record { vehicles = vehicles i; stops = stops i; distances = distances i; draws = draws i }
+    pub loaded-stands : AcceptedAt bytes at h.end (task_in h vs ss ds rs)
+    loaded-stands = subst (λ T. AcceptedAt bytes at h.end T) (sym loaded) ok.1

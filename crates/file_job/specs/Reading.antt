@@ -2,12 +2,13 @@
 use Rattle.std.specs.Prelude.{◌≡◌, ℕ, ◌+◌, ◌*◌, ◌^◌, ◌≤◌, ◌<◌, List, [], ◌∷◌, length, take, Option, Some, None, Result, Ok, Err}
 use Rattle.model.specs.declared.refusal.Refusal.{Refusal}
 use Rattle.model.specs.Numbers.{number_of}
-use Rattle.model.specs.Job.{vehicle_count, stop_count}
-use Rattle.model.specs.Run.{Task}
-use Rattle.model.specs.File.{Readable, line, draw_lines, largest_number, NoneOver, Stands, Accepted, AcceptedAt}
+use Rattle.model.specs.Job.{job_of, vehicle_count, stop_count}
+use Rattle.model.specs.Run.{Task, task_for}
+use Rattle.model.specs.File.{line, draw_lines, largest_number, NoneOver, Stands, Accepted, AcceptedAt}
 use Rattle.file_job.specs.declared.FirstNumbers.{FirstNumbers}
-use Rattle.file_job.specs.declared.Header.{Header}
-use Rattle.file_lines.specs.Standing.{LinesAt, over}
+use Rattle.file_job.specs.declared.header.Header.{Header}
+use Rattle.file_job.specs.declared.task.Task as file
+use Rattle.file_lines.specs.Standing.{LinesAt}
 
 -- ---- the first line
 
@@ -73,65 +74,27 @@ abbrev pub CheckedAt : List ℕ → ℕ → Result Header Refusal → Type 0
 CheckedAt bytes at (Ok h) = (T : Task) × AcceptedAt bytes at h.end T × (h ≡ header_of T h.end)
 CheckedAt bytes at (Err refusal) = (number_of refusal ≡ 14) × ((to : ℕ) (T : Task) → AcceptedAt bytes at to T → ⊥)
 
--- the lists that are lent for a task
-pub record Buffers : Type 0 where
-  pub vehicles : List ℕ
-  pub stops : List ℕ
-  pub distances : List ℕ
-  pub draws : List ℕ
+-- the task of a file, as the lists that count
+abbrev pub task_of : file.Task → Task
+task_of t =
+    let h = t.header in
+    task_for
+    (job_of
+    (take (h.vehicles * 2) t.vehicles)
+    (take h.stops t.stops)
+    h.locations
+    (take (h.locations * h.locations) t.distances)
+    h.prices)
+    h.smoothing
+    h.limit
+    (take h.draws t.draws)
 
-abbrev pub buffers : List ℕ → List ℕ → List ℕ → List ℕ → Buffers
-buffers vs ss ds rs = record { vehicles = vs; stops = ss; distances = ds; draws = rs }
-
--- they have room for every readable task
-pub record Room (m : Buffers) : Type 0 where
-  pub vehicles : 32 ≤ length m.vehicles
-  pub stops : 64 ≤ length m.stops
-  pub distances : 6400 ≤ length m.distances
-  pub draws : 1024 ≤ length m.draws
-
--- the lists begin with the task's, and are otherwise as they were
-abbrev pub loaded : Task → Buffers → Buffers
-loaded T m =
-    record {
-      vehicles = over T.job.vehicles m.vehicles;
-      stops = over T.job.stops m.stops;
-      distances = over T.job.distances m.distances;
-      draws = over T.draws m.draws;
-    }
-
--- the file of a task with this header stands there, and the lists have room for it
-pub record Loadable (bytes : List ℕ) (at : ℕ) (h : Header) (m : Buffers) : Type 0 where
-  pub checked : CheckedAt bytes at (Ok h)
-  pub room : Room m
-
--- the lists of the task with this header whose file stands there are laid over those that are lent
-abbrev pub Loads : List ℕ → ℕ → Header → Buffers → Buffers → Type 0
-Loads bytes at h old new = (T : Task) → AcceptedAt bytes at h.end T → h ≡ header_of T h.end → new ≡ loaded T old
-
--- reading at a position: the header of the one task whose file stands there, and its lists; or refusal 14 where none does, and all lists unchanged
-abbrev pub ReadAt : List ℕ → ℕ → Buffers → Buffers → Result Header Refusal → Type 0
-ReadAt bytes at old new (Ok h) = (T : Task) × AcceptedAt bytes at h.end T × (h ≡ header_of T h.end) × (new ≡ loaded T old)
-ReadAt bytes at old new (Err refusal) = (number_of refusal ≡ 14) × (new ≡ old) × ((to : ℕ) (T : Task) → AcceptedAt bytes at to T → ⊥)
+-- reading at a position: the one task whose file stands there, and where it ends; or refusal 14 where none does
+abbrev pub ReadAt : List ℕ → ℕ → Result file.Task Refusal → Type 0
+ReadAt bytes at (Ok t) = AcceptedAt bytes at t.header.end (task_of t)
+ReadAt bytes at (Err refusal) = (number_of refusal ≡ 14) × ((to : ℕ) (T : Task) → AcceptedAt bytes at to T → ⊥)
 
 -- reading a whole file
-abbrev pub ReadWhole : List ℕ → Buffers → Buffers → Result Header Refusal → Type 0
-ReadWhole bytes old new (Ok h) = (T : Task) × Accepted bytes T × (h ≡ header_of T (length bytes)) × (new ≡ loaded T old)
-ReadWhole bytes old new (Err refusal) = (number_of refusal ≡ 14) × (new ≡ old) × ((T : Task) → Accepted bytes T → ⊥)
-
--- the lists begin with those of a task of this header
-pub record Holds (h : Header) (m : Buffers) (T : Task) : Type 0 where
-  pub readable : Readable T
-  pub header : h ≡ header_of T h.end
-  pub vehicles : take (length T.job.vehicles) m.vehicles ≡ T.job.vehicles
-  pub stops : take (length T.job.stops) m.stops ≡ T.job.stops
-  pub distances : take (length T.job.distances) m.distances ≡ T.job.distances
-  pub draws : take (length T.draws) m.draws ≡ T.draws
-
--- what such a header says of the sizes
-pub record Bounds (h : Header) (m : Buffers) : Type 0 where
-  pub vehicles : h.vehicles ≤ 16
-  pub stops : h.stops ≤ 64
-  pub entries : h.locations * h.locations ≤ 6400
-  pub draws : h.draws ≤ 1024
-  pub lists : Room m
+abbrev pub ReadWhole : List ℕ → Result file.Task Refusal → Type 0
+ReadWhole bytes (Ok t) = Accepted bytes (task_of t) × (t.header.end ≡ length bytes)
+ReadWhole bytes (Err refusal) = (number_of refusal ≡ 14) × ((T : Task) → Accepted bytes T → ⊥)

@@ -1,11 +1,18 @@
-// Reading a job file. A file is first checked whole, and only then are its numbers written into the lists that are lent for them,
-// so that a refusal leaves the lists as they were.
+// Reading a job file. A file is first checked whole, and only then are its numbers written into the lists of a task.
 #![tactic(auto)]
 
-ghost use Rattle.file_lines.specs.Standing.{Says};
-ghost use Rattle.file_job.specs.Reading.{FirstAt, TablesAt, DrawsAt, CheckedAt, buffers, Room, Loadable, Loads, ReadAt, ReadWhole};
+mod header;
+mod lending;
+mod task;
 
+ghost use Rattle.std.specs.Prelude.{◌≡◌, Ok};
+ghost use Rattle.model.specs.File.{AcceptedAt};
+ghost use Rattle.file_lines.specs.Standing.{Says};
+ghost use Rattle.file_job.specs.Reading.{FirstAt, TablesAt, DrawsAt, CheckedAt, task_of, ReadAt, ReadWhole};
+
+pub use header::Header;
 use model::{Prices, Refusal};
+pub use task::Task;
 
 // The numbers of a file's first line.
 #[derive(Clone, Copy)]
@@ -18,19 +25,6 @@ pub struct FirstNumbers {
     pub missed: u64,
     pub smoothing: u32,
     pub limit: u32,
-}
-
-// A task without its lists: how long they are (`vehicles` counts pairs), the other numbers, and the position after its file.
-#[derive(Clone, Copy)]
-pub struct Header {
-    pub vehicles: usize,
-    pub stops: usize,
-    pub locations: u32,
-    pub prices: Prices,
-    pub smoothing: u32,
-    pub limit: u32,
-    pub draws: usize,
-    pub end: usize,
 }
 
 // The first line of a file, which is 113 bytes long: no position in it wraps once there is room for it.
@@ -136,71 +130,50 @@ fn check_at(bytes: &[u8], at: usize) -> Result<Header, Refusal>
     })
 }
 
-// The lists of a task that was checked.
-fn fill_at(
-    bytes: &[u8],
-    at: usize,
-    h: Header,
-    vehicles: &mut [u32],
-    stops: &mut [u32],
-    distances: &mut [u32],
-    draws: &mut [u32],
-)
-    requires { Loadable bytes.now at h (buffers vehicles.old stops.old distances.old draws.old) }
-    ensures { Loads bytes.now at h
-        (buffers vehicles.old stops.old distances.old draws.old)
-        (buffers vehicles.new stops.new distances.new draws.new) }
+// The task of a file that was checked, with its lists.
+fn load(bytes: &[u8], at: usize, header: Header) -> Task
+    requires { CheckedAt bytes.now at (Ok header) }
+    ensures { (result.header ≡ header) × AcceptedAt bytes.now at header.end (task_of result) }
 {
-    let v = h.vehicles;
-    let n = h.stops;
-    let l = h.locations as usize;
-    let d = h.draws;
+    let v = header.vehicles;
+    let n = header.stops;
+    let l = header.locations as usize;
+    let d = header.draws;
     let second = at + 113 + v * 29;
     let third = second + n * 15;
     let fourth = third + l * (14 * l + 1) + 15;
-    file_lines::fill_lines(bytes, at + 113, v, 2, vehicles);
-    file_lines::fill_lines(bytes, second, n, 1, stops);
-    file_lines::fill_lines(bytes, third, l, l, distances);
-    file_lines::fill_lines(bytes, fourth, d, 1, draws);
+    let mut vehicles = [0u32; 32];
+    let mut stops = [0u32; 64];
+    let mut distances = [0u32; 6400];
+    let mut draws = [0u32; 1024];
+    file_lines::fill_lines(bytes, at + 113, v, 2, &mut vehicles);
+    file_lines::fill_lines(bytes, second, n, 1, &mut stops);
+    file_lines::fill_lines(bytes, third, l, l, &mut distances);
+    file_lines::fill_lines(bytes, fourth, d, 1, &mut draws);
+    Task {
+        header,
+        vehicles,
+        stops,
+        distances,
+        draws,
+    }
 }
 
-// The task whose file stands at a position, where others may follow it: its lists go to the front of those that are lent.
-pub fn read_at(
-    bytes: &[u8],
-    at: usize,
-    vehicles: &mut [u32],
-    stops: &mut [u32],
-    distances: &mut [u32],
-    draws: &mut [u32],
-) -> Result<Header, Refusal>
-    requires { Room (buffers vehicles.old stops.old distances.old draws.old) }
-    ensures { ReadAt bytes.now at
-        (buffers vehicles.old stops.old distances.old draws.old)
-        (buffers vehicles.new stops.new distances.new draws.new) result }
+// The task whose file stands at a position, where others may follow it.
+pub fn read_at(bytes: &[u8], at: usize) -> Result<Task, Refusal>
+    ensures { ReadAt bytes.now at result }
 {
-    let h = check_at(bytes, at)?;
-    fill_at(bytes, at, h, vehicles, stops, distances, draws);
-    Ok(h)
+    let header = check_at(bytes, at)?;
+    Ok(load(bytes, at, header))
 }
 
 // The task whose file the bytes are, with nothing before or after it.
-pub fn read_file(
-    bytes: &[u8],
-    vehicles: &mut [u32],
-    stops: &mut [u32],
-    distances: &mut [u32],
-    draws: &mut [u32],
-) -> Result<Header, Refusal>
-    requires { Room (buffers vehicles.old stops.old distances.old draws.old) }
-    ensures { ReadWhole bytes.now
-        (buffers vehicles.old stops.old distances.old draws.old)
-        (buffers vehicles.new stops.new distances.new draws.new) result }
+pub fn read_file(bytes: &[u8]) -> Result<Task, Refusal>
+    ensures { ReadWhole bytes.now result }
 {
-    let h = check_at(bytes, 0)?;
-    let end = h.end;
-    if end != bytes.len() {
+    let header = check_at(bytes, 0)?;
+    if header.end != bytes.len() {
         return Err(Refusal::File);
     }
-    fill_at(bytes, 0, h, vehicles, stops, distances, draws);
-    Ok(h)
+    Ok(load(bytes, 0, header))
 }

@@ -1,9 +1,9 @@
 -- What is asked and promised of printing.
-use Rattle.std.specs.Prelude.{◌≡◌, ℕ, ◌+◌, ◌≤◌, cond, List, [], ◌∷◌, length}
+use Rattle.std.specs.Prelude.{◌≡◌, ℕ, cond, List, [], ◌∷◌, length}
 use Rattle.model.specs.declared.Totals.{Totals}
 use Rattle.model.specs.Lists.{for_each, up_from}
 use Rattle.model.specs.Whole.{amount, IsWhole}
-use Rattle.model.specs.Plan.{Plan, vehicle_of, is_placed, Lent, Sizes}
+use Rattle.model.specs.Plan.{Plan, vehicle_of, is_placed}
 use Rattle.model.specs.File.{dash, justified, columns, line, printed_stop}
 use Rattle.file_columns.specs.Put.{written}
 
@@ -22,12 +22,6 @@ printed_totals t = line 20 (amount t.start ∷ amount t.end ∷ t.rounds ∷ t.i
 -- the costs of an answer are whole numbers
 abbrev pub Priced : Totals → Type 0
 Priced t = IsWhole t.start × IsWhole t.end
-
--- a plan as it is lent, and room for so many bytes from a position on
-pub record Printable (v n : ℕ) (plan out : List ℕ) (at bytes : ℕ) : Type 0 where
-  pub sizes : Sizes v n
-  pub form : Lent v n plan
-  pub room : at + bytes ≤ length out
 
 -- so many bytes are printed, and the rest is as it was
 pub record Prints (old new : List ℕ) (r : ℕ) (text : List ℕ) : Type 0 where

@@ -2,19 +2,20 @@
 #![tactic(auto)]
 
 ghost use Rattle.std.specs.Prelude.{◌≡◌, ◌+◌, ◌*◌, ◌≤◌, ◌<◌, length, Ok};
-ghost use Rattle.model.specs.Plan.{decode};
 ghost use Rattle.model.specs.File.{printed_stop, printed_refusal, printed};
+ghost use Rattle.solution.specs.Held.{routes};
 ghost use Rattle.file_columns.specs.Put.{written};
-ghost use Rattle.file_printing.specs.Printing.{printed_vehicle, printed_stops, printed_totals, Priced, Printable, Prints};
+ghost use Rattle.file_printing.specs.Printing.{printed_vehicle, printed_stops, printed_totals, Priced, Prints};
 
 use model::Totals;
+use solution::Plan;
 
 // The vehicle of a stop, or a dash where it has none.
-fn put_vehicle(out: &mut [u8], at: usize, plan: &[u32], v: usize, n: usize, stop: u32)
-    requires { Printable v n plan.now out.old at 4 }
-    ensures { out.new ≡ written out.old at (printed_vehicle (decode v plan.now) stop) }
+fn put_vehicle(out: &mut [u8], at: usize, plan: &Plan, stop: u32)
+    requires { at + 4 ≤ length out.old }
+    ensures { out.new ≡ written out.old at (printed_vehicle (routes plan.now) stop) }
 {
-    match solution::find(plan, v, n, stop) {
+    match plan.find(stop) {
         Some(place) => {
             let k = place.vehicle;
             file_columns::put_number(out, at, 4, k as u64);
@@ -26,23 +27,23 @@ fn put_vehicle(out: &mut [u8], at: usize, plan: &[u32], v: usize, n: usize, stop
 }
 
 // The line of a stop: its number and its vehicle.
-fn put_stop(out: &mut [u8], at: usize, plan: &[u32], v: usize, n: usize, stop: u32)
-    requires printable { Printable v n plan.now out.old at 9 }
-    requires stop_lt_n { stop < n }
-    ensures { out.new ≡ written out.old at (printed_stop (decode v plan.now) stop) }
+fn put_stop(out: &mut [u8], at: usize, plan: &Plan, stop: u32)
+    requires room { at + 9 ≤ length out.old }
+    requires stop_lt_n { stop < plan.now.n }
+    ensures { out.new ≡ written out.old at (printed_stop (routes plan.now) stop) }
 {
     file_columns::put_number(out, at, 4, stop as u64);
-    put_vehicle(out, at + 4, plan, v, n, stop);
+    put_vehicle(out, at + 4, plan, stop);
     out[at + 8] = b'\n';
 }
 
 // The lines of all stops, from the front.
-fn put_stops(out: &mut [u8], plan: &[u32], v: usize, n: usize)
-    requires { Printable v n plan.now out.old 0 (n * 9) }
-    ensures { out.new ≡ written out.old 0 (printed_stops (decode v plan.now) n) }
+fn put_stops(out: &mut [u8], plan: &Plan)
+    requires { plan.now.n * 9 ≤ length out.old }
+    ensures { out.new ≡ written out.old 0 (printed_stops (routes plan.now) plan.now.n) }
 {
-    for i in 0..n {
-        put_stop(out, i * 9, plan, v, n, i as u32);
+    for i in 0..plan.n {
+        put_stop(out, i * 9, plan, i as u32);
     }
 }
 
@@ -61,12 +62,13 @@ pub fn put_totals(out: &mut [u8], at: usize, t: Totals)
 }
 
 // What is printed for a run that answered `t` and left the plan: how many bytes it is.
-pub fn print_run(t: Totals, plan: &[u32], v: usize, n: usize, out: &mut [u8]) -> usize
-    requires printable { Printable v n plan.now out.old 0 (n * 9 + 101) }
+pub fn print_run(t: Totals, plan: &Plan, out: &mut [u8]) -> usize
+    requires room { plan.now.n * 9 + 101 ≤ length out.old }
     requires priced { Priced t }
-    ensures { Prints out.old out.new result (printed n (decode v plan.now) (Ok t)) }
+    ensures { Prints out.old out.new result (printed plan.now.n (routes plan.now) (Ok t)) }
 {
-    put_stops(out, plan, v, n);
+    put_stops(out, plan);
+    let n = plan.n;
     put_totals(out, n * 9, t);
     n * 9 + 101
 }

@@ -14,7 +14,8 @@ use Rattle.model.specs.Job.{Job, stop_count}
 use Rattle.model.specs.Plan.{Plan, Route, route_of, vehicle_of, is_placed}
 use Rattle.model.specs.Cost.{over_routes, route_price}
 use Rattle.model.specs.Live.{put_in, cancelled}
-use Rattle.model.specs.Vans.{Move, view, view_from, unplaced, unplaced_set, moved, own_price, own_cost, on_others_van, beyond_end, bad_move}
+use Rattle.model.specs.Vans.{view, view_from, unplaced, unplaced_set, moved, own_price, own_cost, on_others_van, beyond_end, bad_move}
+use Rattle.model.specs.declared.Move.{Move}
 use Rattle.model.specs.Studios.{Agree}
 use Rattle.model.proofs.Lists.{Tested, tested, member-count, count-member, absent-count, count-absent, get_or-change, get_or-change-other, change-out}
 use Rattle.model.proofs.Counts.{Below}

@@ -11,7 +11,8 @@ use lib.Seq.{get_or_at, length-take-le}
 use Rattle.model.specs.Lists.{concat, without, count, Once}
 use Rattle.model.specs.Plan.{Plan, Route, route_of}
 use Rattle.model.specs.Live.{put_in, placing, cancelled}
-use Rattle.model.specs.Vans.{Move, moved}
+use Rattle.model.specs.Vans.{moved}
+use Rattle.model.specs.declared.Move.{Move}
 use Rattle.model.specs.Studios.{Carried}
 use Rattle.model.proofs.Lists.{Tested, tested, one_same, count-absent, without-absent, get_or-change, get_or-change-other}
 use Rattle.model.proofs.Counts.{count-route, count-take-le}

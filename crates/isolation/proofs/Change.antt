@@ -13,7 +13,8 @@ use Rattle.model.specs.StopSet.{contains}
 use Rattle.model.specs.Job.{Job, stop_count}
 use Rattle.model.specs.Plan.{Plan, Route, route_of, vehicle_of, is_placed, placed}
 use Rattle.model.specs.Cost.{cost, over_routes, route_price}
-use Rattle.model.specs.Vans.{Move, Held, unplaced, moved, own_price, own_cost, cost_change, on_others_van}
+use Rattle.model.specs.Vans.{Held, unplaced, moved, own_price, own_cost, cost_change, on_others_van}
+use Rattle.model.specs.declared.Move.{Move}
 use Rattle.model.proofs.Counts.{Below}
 use Rattle.model.proofs.Cost.{cost-is}
 use Rattle.model.proofs.Locate.{vehicle-none}

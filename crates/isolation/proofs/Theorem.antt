@@ -8,7 +8,8 @@ use lib.ListN.{length}
 use Rattle.std.specs.Prelude.{Ok}
 use Rattle.model.specs.Job.{Job, vehicle_count, stop_count}
 use Rattle.model.specs.Plan.{Plan, Lent, encode, decode}
-use Rattle.model.specs.Vans.{Move, view, moved, own_cost, cost_change}
+use Rattle.model.specs.Vans.{view, moved, own_cost, cost_change}
+use Rattle.model.specs.declared.Move.{Move}
 use Rattle.model.specs.Refusals.{looking, moving, View, MoveStop, refusal}
 use Rattle.model.specs.Calls.{carried, left_by, seen_by, made, view_answer, seen_left, move_answer, plan_left}
 use Rattle.model.specs.Studios.{Agree, Alike, SameView, SameMoves, Isolation, MovePromise}

@@ -8,13 +8,12 @@ use mathlib.Core.List.{List, []}
 use lib.Dec.{eqb}
 use lib.ListN.{length}
 use Rattle.model.specs.Lists.{concat, change, without, position, count, Once}
-use Rattle.model.specs.Plan.{Plan, route_of, encode, decode, vehicle_of, is_placed, Lent}
+use Rattle.model.specs.Plan.{Plan, route_of, encode, vehicle_of, is_placed}
 use Rattle.model.specs.Live.{cancelled}
 use Rattle.model.proofs.Lists.{Tested, tested, change-same, without-split, absent-count}
 use Rattle.model.proofs.Counts.{Below}
-use Rattle.model.proofs.Live.{cancelled-count, cancelled-routes, cancelled-once}
+use Rattle.model.proofs.Live.{cancelled-count}
 use Rattle.model.proofs.Locate.{vehicle-lt, vehicle-position}
-use Rattle.model.proofs.PlanForm.{lent_length, lent-encode, decode-encode}
 use Rattle.model.proofs.Placings.{cancelled-at, cancelled-none}
 use Rattle.solution.specs.declared.Place.{Place}
 use Rattle.std.proofs.Common.{Some, None}
@@ -75,16 +74,3 @@ cancelled-below n s P o b x h = go (tested x s) (cancelled-count s P o x)
     go : Tested x s → count x (concat (cancelled s P)) ≡ cond (eqb x s) 0 (count x (concat P)) → x < n
     go (inl q) e = absurd (omega (arith, rw q.1 at e))
     go (inr q) e = b x (omega (arith, rw q.1 at e))
-
--- the plan that is left is lent again
-module _ (v n : ℕ) (xs : List ℕ) (L : Lent v n xs) (s : ℕ) (ys : List ℕ) (e : ys ≡ encode n (cancelled s (decode v xs))) where
-  routes : length (cancelled s (decode v xs)) ≡ v
-  routes = cancelled-routes s (decode v xs) ∙ lent_length v n xs L
-
-  pub left-plan : decode v ys ≡ cancelled s (decode v xs)
-  left-plan = rw e (decode-encode n (cancelled s (decode v xs)) v routes)
-
-  pub left-lent : Lent v n ys
-  left-lent =
-      rw e
-      (lent-encode v n (cancelled s (decode v xs)) routes (cancelled-once s (decode v xs) L.once) (cancelled-below n s (decode v xs) L.once L.below))

@@ -2,3 +2,4 @@ pub mod Write
 pub mod Routes
 pub mod Places
 pub mod Leaving
+pub mod Changed

@@ -1,13 +1,19 @@
 // Writing plans: the plan form of empty routes, one with two routes replaced, and one with a stop put in or taken out.
 #![tactic(auto)]
 
+mod changes;
+
 ghost use Rattle.std.specs.Prelude.{◌≡◌, [], ◌∷◌, ◌++◌, ◌+◌, ◌≤◌, ◌<◌, length, take, drop, replicate};
 ghost use Rattle.model.specs.Lists.{concat, change};
 ghost use Rattle.model.specs.Plan.{unused, route_of, encode, decode, placed, Lent, Sizes};
 ghost use Rattle.model.specs.TwoOpt.{set_route};
 ghost use Rattle.model.specs.Live.{placing};
+ghost use Rattle.solution.specs.Held.{routes};
 ghost use Rattle.joining.specs.Places.{leaving_out};
 ghost use Rattle.pasting.specs.Put.{area_of};
+
+pub use changes::{append, blank, insert, remove, replace};
+use solution::Plan;
 
 // Writes the plan of v empty routes.
 pub fn empty(plan: &mut [u32], v: usize, n: usize)
@@ -45,84 +51,55 @@ fn write_around_two(
 }
 
 // Writes the stops area of `old` with other routes a and b, a the lower.
-fn write_stops_two(
-    area: &mut [u32],
-    old: &[u32],
-    v: usize,
-    n: usize,
-    a: usize,
-    first: &[u32],
-    b: usize,
-    second: &[u32],
-)
-    requires sizes { Sizes v n }
-    requires lent { Lent v n old.now }
-    requires area_len { length area.old ≡ n }
-    requires a_lt_b { (a < b) × (b < v) }
-    requires bound { placed (set_route b second.now (set_route a first.now (decode v old.now))) ≤ n }
-    ensures { area.new ≡ area_of n (concat (set_route b second.now (set_route a first.now (decode v old.now)))) }
+fn write_stops_two(area: &mut [u32], old: &Plan, a: usize, first: &[u32], b: usize, second: &[u32])
+    requires area_len { length area.old ≡ old.now.n }
+    requires a_lt_b { (a < b) × (b < old.now.v) }
+    requires bound { placed (set_route b second.now (set_route a first.now (routes old.now))) ≤ old.now.n }
+    ensures { area.new ≡ area_of old.now.n (concat (set_route b second.now (set_route a first.now (routes old.now)))) }
 {
-    let start_a = solution::offset(old, v, a);
-    let end_a = start_a + old[a] as usize;
-    let start_b = solution::offset(old, v, b);
-    let end_b = start_b + old[b] as usize;
-    let used = solution::offset(old, v, v);
+    let form = old.form();
+    let v = old.v;
+    let start_a = solution::offset(form, v, a);
+    let end_a = start_a + form[a] as usize;
+    let start_b = solution::offset(form, v, b);
+    let end_b = start_b + form[b] as usize;
+    let used = solution::offset(form, v, v);
     write_around_two(
         area,
-        &old[v..start_a],
+        &form[v..start_a],
         first,
-        &old[end_a..start_b],
+        &form[end_a..start_b],
         second,
-        &old[end_b..used],
+        &form[end_b..used],
     );
 }
 
 // Writes into `new` the plan of `old` with routes a and b replaced, a the lower.
-fn replace_in_order(
-    old: &[u32],
-    new: &mut [u32],
-    v: usize,
-    n: usize,
-    a: usize,
-    first: &[u32],
-    b: usize,
-    second: &[u32],
-)
-    requires sizes { Sizes v n }
-    requires lent { Lent v n old.now }
-    requires len { length new.old ≡ v + n }
-    requires a_lt_b { (a < b) × (b < v) }
-    requires bound { placed (set_route b second.now (set_route a first.now (decode v old.now))) ≤ n }
-    ensures { new.new ≡ encode n (set_route b second.now (set_route a first.now (decode v old.now))) }
+fn replace_in_order(old: &Plan, new: &mut [u32], a: usize, first: &[u32], b: usize, second: &[u32])
+    requires len { length new.old ≡ old.now.v + old.now.n }
+    requires a_lt_b { (a < b) × (b < old.now.v) }
+    requires bound { placed (set_route b second.now (set_route a first.now (routes old.now))) ≤ old.now.n }
+    ensures { new.new ≡ encode old.now.n (set_route b second.now (set_route a first.now (routes old.now))) }
 {
-    pasting::paste(new, 0, &old[..v]);
+    let v = old.v;
+    pasting::paste(new, 0, &old.form()[..v]);
     new[a] = first.len() as u32;
     new[b] = second.len() as u32;
-    write_stops_two(&mut new[v..], old, v, n, a, first, b, second);
+    write_stops_two(&mut new[v..], old, a, first, b, second);
 }
 
-// Writes into `new` the plan of `old` with two routes replaced: what the two-opt between routes leaves.
-pub fn replace_two(
-    old: &[u32],
-    new: &mut [u32],
-    v: usize,
-    n: usize,
-    a: usize,
-    first: &[u32],
-    b: usize,
-    second: &[u32],
-)
-    requires sizes { Sizes v n }
-    requires lent { Lent v n old.now }
-    requires len { length new.old ≡ v + n }
-    requires a_lt_v { (a < v) × (b < v) × (a ≡ b → ⊥) }
-    requires bound { placed (set_route b second.now (set_route a first.now (decode v old.now))) ≤ n }
-    ensures { new.new ≡ encode n (set_route b second.now (set_route a first.now (decode v old.now))) }
+// Writes into `new` the plan of `old` with two routes replaced: what the two-opt between routes leaves. The new routes need not make a plan
+// that can be lent, so it is written as numbers; `replace` asks that they do.
+pub fn replace_two(old: &Plan, new: &mut [u32], a: usize, first: &[u32], b: usize, second: &[u32])
+    requires len { length new.old ≡ old.now.v + old.now.n }
+    requires a_lt_v { (a < old.now.v) × (b < old.now.v) × (a ≡ b → ⊥) }
+    requires bound { placed (set_route b second.now (set_route a first.now (routes old.now))) ≤ old.now.n }
+    ensures { new.new ≡ encode old.now.n (set_route b second.now (set_route a first.now (routes old.now))) }
 {
     if a < b {
-        replace_in_order(old, new, v, n, a, first, b, second);
+        replace_in_order(old, new, a, first, b, second);
     } else {
-        replace_in_order(old, new, v, n, b, second, a, first);
+        replace_in_order(old, new, b, second, a, first);
     }
 }
 
@@ -136,7 +113,8 @@ fn shift_in(part: &mut [u32], x: u32)
     }
 }
 
-// Puts a stop in at place i of route k. Some place of the plan is unused.
+// Puts a stop in at place i of route k, in the numbers of a lent form. Some place of the plan is unused. The stop may be any number, so what is
+// left need not be a plan; `insert` asks that it is.
 pub fn put_in(plan: &mut [u32], v: usize, n: usize, k: usize, i: usize, stop: u32)
     requires sizes { Sizes v n × Lent v n plan.old }
     requires k_lt_v { (k < v) × (i ≤ length (route_of (decode v plan.old) k)) × (placed (decode v plan.old) < n) }
@@ -156,7 +134,7 @@ fn shift_out(part: &mut [u32])
     part.rotate_left(1);
 }
 
-// Takes the stop at place i of route k out.
+// Takes the stop at place i of route k out, in the numbers of a lent form.
 pub fn take_out(plan: &mut [u32], v: usize, n: usize, k: usize, i: usize)
     requires sizes { Sizes v n × Lent v n plan.old }
     requires k_lt_v { (k < v) × (i < length (route_of (decode v plan.old) k)) }

@@ -1,6 +1,6 @@
 -- The plans whose arrangements are counted: all stops on the first route, with a gap that is all of it and an empty gap on each other route,
 -- or with no gap.
-use Prim.Native.Nat.{ℕ, zero, suc, ◌+◌, ◌*◌, ◌≤◌}
+use Prim.Native.Nat.{ℕ, zero, suc, ◌≤◌}
 use native.Mathlib.Omega.{arith}
 use mathlib.Core.Path.{◌≡◌, refl, ap, ap₂, ◌∙◌}
 use mathlib.Core.Logic.{inl, inr}
@@ -10,15 +10,17 @@ use lib.Dec.{ltb, leb}
 use lib.ListN.{length, get_or, replicate}
 use borrow.Author.Tests.{ltb-true, leb-true}
 use Rattle.model.specs.Lists.{In, all_once}
-use Rattle.model.specs.Plan.{Plan, route_of, decode, is_plan}
+use Rattle.model.specs.Plan.{Plan, route_of, decode}
 use Rattle.model.specs.declared.Region.{Region}
 use Rattle.model.specs.Region.{drained, vehicles_of, Stretch}
 use Rattle.model.specs.Legs.{LegTable}
 use Rattle.model.specs.Rebuild.{begun, completed, arrangement_count}
 use Rattle.model.proofs.Counts.{all_once-once}
 use Rattle.model.proofs.Fillings.{begun-count, completed-count}
-use Rattle.model.proofs.PlanForm.{is_plan-lent}
 use Rattle.model.proofs.Members.{once-distinct}
+use Rattle.solution.specs.declared.plan.Plan as held
+use Rattle.solution.specs.Held.{numbers_of, routes}
+use Rattle.solution.proofs.Holding.{read-routes}
 use Rattle.rebuild_words.specs.Gaps.{Gapped}
 
 -- a table of no distances
@@ -50,19 +52,30 @@ tested P (u ∷ gs) e g (inl h) =
       within = leb-true u.to (length (route_of P u.vehicle)) b.1;
     })
 
--- a plan and its regions that pass the tests
-module _ (v n : ℕ) (xs : List ℕ) (regions : List Region) where
-  pub gapped : v ≤ 16 → n ≤ 64 → length xs ≡ v + n → is_plan v n xs ≡ true → length regions ≤ 3
-      → all_once (vehicles_of regions) ≡ true → all_stretches (decode v xs) regions ≡ true → Gapped v n xs regions
-  gapped hv hn l p f o s = record {
-    sizes = record { vehicles = hv; stops = hn };
-    plan = is_plan-lent v n xs l p;
+-- a gap that is the first n stops of the first route, and an empty one at the front of another route
+abbrev pub first : ℕ → Region
+first n = record { vehicle = 0; from = 0; to = n }
+
+abbrev pub later : ℕ → Region
+later k = record { vehicle = k; from = 0; to = 0 }
+
+-- regions of the plan that is held from a lent form, both of which pass the tests
+module _ (v n : ℕ) (xs : List ℕ) (p : held.Plan) (h : (p.v ≡ v) × (p.n ≡ n) × (numbers_of p ≡ xs)) (regions : List Region) where
+  same : routes p ≡ decode v xs
+  same = read-routes v xs p h.0 h.2
+
+  pub gapped : length regions ≤ 3 → all_once (vehicles_of regions) ≡ true → all_stretches (decode v xs) regions ≡ true → Gapped p regions
+  gapped f o s = record {
     few = f;
     stretches = record {
       apart = once-distinct (vehicles_of regions) (all_once-once (vehicles_of regions) o);
-      each = tested (decode v xs) regions s;
+      each = rw same (tested (decode v xs) regions s);
     };
   }
+
+  -- how many stops they drain
+  pub drains : (m : ℕ) → length (drained (decode v xs) regions) ≡ m → length (drained (routes p) regions) ≡ m
+  drains m e = rw same e
 
 -- six stops in three regions
 pub six-in-three : (P : Plan) (gs : List Region) → length gs ≡ 3 → length (drained P gs) ≡ 6 → (begun P gs ≡ 1957) × (completed P gs ≡ 42079)

@@ -4,103 +4,99 @@
 #![tactic(auto)]
 
 ghost use Rattle.std.specs.Prelude.{◌≡◌, [], ◌∷◌, ◌≤◌, length};
-ghost use Rattle.model.specs.Plan.{decode};
 ghost use Rattle.model.specs.Region.{drained};
 ghost use Rattle.model.specs.Rebuild.{begun, completed};
+ghost use Rattle.solution.specs.Held.{routes};
 ghost use Rattle.rebuild_words.specs.Gaps.{Gapped};
 
+use distance::{Legs, Tariff};
 use model::{Prices, Region, Walk};
+use solution::Plan;
 use std::io;
 
 // What the walk over the arrangements of a plan's regions counts. All legs are 0 metres long, and nothing has a price.
-fn count(v: usize, n: usize, plan: &[u32], regions: &[Region]) -> Walk
-    requires { Gapped v n plan.now regions.now × (length (drained (decode v plan.now) regions.now) ≤ 7) }
-    ensures begun_value { result.begun ≡ begun (decode v plan.now) regions.now }
-    ensures completed_value { result.completed ≡ completed (decode v plan.now) regions.now }
+fn count(plan: &Plan, regions: &[Region]) -> Walk
+    requires { Gapped plan.now regions.now × (length (drained (routes plan.now) regions.now) ≤ 7) }
+    ensures begun_value { result.begun ≡ begun (routes plan.now) regions.now }
+    ensures completed_value { result.completed ≡ completed (routes plan.now) regions.now }
 {
-    let legs = [0u32; 6400];
+    let legs = Legs {
+        table: [0u32; 6400],
+    };
     let prices = Prices {
         linear: 0,
         quadratic: 0,
         missed: 0,
     };
-    let mut best = [0u32; 80];
-    let m = v + n;
-    rebuild_arrange::arrange(&legs, v, n, prices, plan, regions, &mut best[..m])
+    let tariff = Tariff { legs, prices };
+    let mut best = *plan;
+    rebuild_arrange::rearrange(&tariff, &mut best, regions)
 }
 
 // 7 stops in one gap.
 fn seven_in_one() -> Walk
     ensures { (result.begun ≡ 13700) × (result.completed ≡ 13700) }
 {
-    count(
-        1,
-        7,
-        &[7, 0, 1, 2, 3, 4, 5, 6],
-        &[Region {
-            vehicle: 0,
-            from: 0,
-            to: 7,
-        }],
-    )
+    let plan = solution::hold(1, 7, &[7, 0, 1, 2, 3, 4, 5, 6]);
+    let regions = [Region {
+        vehicle: 0,
+        from: 0,
+        to: 7,
+    }];
+    count(&plan, &regions)
 }
 
 // 6 stops in two gaps.
 fn six_in_two() -> Walk
     ensures { (result.begun ≡ 1957) × (result.completed ≡ 11743) }
 {
-    count(
-        2,
-        6,
-        &[6, 0, 0, 1, 2, 3, 4, 5],
-        &[
-            Region {
-                vehicle: 0,
-                from: 0,
-                to: 6,
-            },
-            Region {
-                vehicle: 1,
-                from: 0,
-                to: 0,
-            },
-        ],
-    )
+    let plan = solution::hold(2, 6, &[6, 0, 0, 1, 2, 3, 4, 5]);
+    let regions = [
+        Region {
+            vehicle: 0,
+            from: 0,
+            to: 6,
+        },
+        Region {
+            vehicle: 1,
+            from: 0,
+            to: 0,
+        },
+    ];
+    count(&plan, &regions)
 }
 
 // No gap.
 fn in_none() -> Walk
     ensures { (result.begun ≡ 0) × (result.completed ≡ 0) }
 {
-    count(2, 6, &[6, 0, 0, 1, 2, 3, 4, 5], &[])
+    let plan = solution::hold(2, 6, &[6, 0, 0, 1, 2, 3, 4, 5]);
+    count(&plan, &[])
 }
 
 // 6 stops on three vehicles.
 fn six_on_three() -> Walk
     ensures { (result.begun ≡ 1957) × (result.completed ≡ 42079) }
 {
-    count(
-        3,
-        6,
-        &[6, 0, 0, 0, 1, 2, 3, 4, 5],
-        &[
-            Region {
-                vehicle: 0,
-                from: 0,
-                to: 6,
-            },
-            Region {
-                vehicle: 1,
-                from: 0,
-                to: 0,
-            },
-            Region {
-                vehicle: 2,
-                from: 0,
-                to: 0,
-            },
-        ],
-    )
+    let plan = solution::hold(3, 6, &[6, 0, 0, 0, 1, 2, 3, 4, 5]);
+    let regions = [
+        Region {
+            vehicle: 0,
+            from: 0,
+            to: 6,
+        },
+        Region {
+            vehicle: 1,
+            from: 0,
+            to: 0,
+        },
+        Region {
+            vehicle: 2,
+            from: 0,
+            to: 0,
+        },
+    ];
+    count(&plan, &regions)
 }
 
 // Prints both counts on a line.

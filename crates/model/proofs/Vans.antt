@@ -18,7 +18,8 @@ use Rattle.model.specs.Plan.{Plan, Route, route_of, vehicle_of, is_placed, place
 use Rattle.model.specs.StopSet.{bit, contains}
 use Rattle.model.specs.Cost.{route_price, over_routes, driving_from, driving_cost}
 use Rattle.model.specs.Live.{unplaced_of, put_in, cancelled}
-use Rattle.model.specs.Vans.{Move, unplaced, moved, bad_vans}
+use Rattle.model.specs.Vans.{unplaced, moved, bad_vans}
+use Rattle.model.specs.declared.Move.{Move}
 use Rattle.model.proofs.Lists.{tested, one_same, one-other, member-count, absent-count, count-append, length-up_from, count-up_from, length-change, get_or-change-other}
 use Rattle.model.proofs.Counts.{Below, up_from-below, length-kept}
 use Rattle.model.proofs.Cost.{driving-nil, driving-cons, driving_cost-is, cheaper-alike}

@@ -9,7 +9,8 @@ use Rattle.model.specs.Job.{Job}
 use Rattle.model.specs.Plan.{unused, decode, route_of, is_placed}
 use Rattle.model.specs.StopSet.{contains}
 use Rattle.model.specs.Sums.{job_a}
-use Rattle.model.specs.Vans.{Move, move_to, unplaced_set, view, moved, own_cost, cost_change, bad_vans, bad_move}
+use Rattle.model.specs.Vans.{move_to, unplaced_set, view, moved, own_cost, cost_change, bad_vans, bad_move}
+use Rattle.model.specs.declared.Move.{Move}
 use Rattle.model.specs.Refusals.{Arguments, looking, moving, MoveStop}
 use Rattle.model.specs.Calls.{Said, SignedSaid, view_answer, seen_left, move_answer, plan_left, said_by_viewed, said_by_moved}
 use Rattle.model.specs.Studios.{Alike, answers, after_moves}

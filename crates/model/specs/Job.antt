@@ -1,6 +1,8 @@
 -- Specification, 1: vehicles as start, end, start, end and so on, a location for each stop, and the distances row by row (row = from, column = to).
 use Rattle.std.specs.Prelude.{ℕ, ◌+◌, ◌*◌, ◌/◌, List, length, get_or}
 use Rattle.model.specs.declared.Prices.{Prices}
+use Rattle.model.specs.declared.job.Network.{Network}
+use Rattle.model.specs.declared.job.Job as lent
 
 pub record Job : Type 0 where
   pub vehicles : List ℕ
@@ -9,9 +11,17 @@ pub record Job : Type 0 where
   pub distances : List ℕ
   pub prices : Prices
 
--- the job that a call is lent
+-- the job of these lists
 abbrev pub job_of : List ℕ → List ℕ → ℕ → List ℕ → Prices → Job
 job_of vs ss l ds p = record { vehicles = vs; stops = ss; locations = l; distances = ds; prices = p }
+
+-- a network with prices
+abbrev pub priced : Network → Prices → Job
+priced N p = job_of N.vehicles.now N.stops.now N.locations N.distances.now p
+
+-- the job that a call is lent, of the lists that it lends
+abbrev pub of_lent : lent.Job → Job
+of_lent J = priced J.network J.prices
 
 -- v, the number of vehicles
 abbrev pub vehicle_count : Job → ℕ

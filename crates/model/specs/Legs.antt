@@ -43,11 +43,3 @@ pub record Fits (J : Job) (table : List ℕ) (v n : ℕ) (p : Prices) : Type 0 w
   pub stops : stop_count J ≡ n
   pub prices : J.prices ≡ p
   pub leg : (a b : ℕ) → IsPlace J a → IsPlace J b → leg_at table a b ≡ distance J (leaves J a) (reaches J b)
-
--- what an exhaustive solver is given: a leg table, up to three vehicles and six stops, prices, and a list with room for their plan
-pub record Solvable (t : List ℕ) (v n : ℕ) (p : Prices) (xs : List ℕ) : Type 0 where
-  pub legs : LegTable t
-  pub vehicles : v ≤ 3
-  pub stops : n ≤ 6
-  pub prices : Affordable p
-  pub long : length xs ≡ v + n

@@ -7,7 +7,8 @@ use Rattle.model.specs.Lists.{member, all_below, all_once}
 use Rattle.model.specs.Job.{Job, job_of, vehicle_count, stop_count}
 use Rattle.model.specs.Plan.{Plan, decode, used_part, is_plan}
 use Rattle.model.specs.StopSet.{contains, stops_of}
-use Rattle.model.specs.Vans.{Move, move_to, bad_vans, bad_move}
+use Rattle.model.specs.Vans.{move_to, bad_vans, bad_move}
+use Rattle.model.specs.declared.Move.{Move}
 use Rattle.model.specs.Roads.{road_from, bad_road, bad_entry}
 
 -- What a call is given. Where a call has no such argument the list is empty or the number 0, and the call does not test it.

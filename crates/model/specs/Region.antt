@@ -1,5 +1,5 @@
 -- Specification, 6: which stretches of which routes are drained.
-use Rattle.std.specs.Prelude.{ℕ, ◌+◌, ◌-◌, ◌*◌, ◌/◌, ◌≤◌, ◌<◌, min, cond, List, [], ◌∷◌, map, length}
+use Rattle.std.specs.Prelude.{ℕ, ◌+◌, ◌-◌, ◌/◌, ◌≤◌, ◌<◌, min, cond, List, [], ◌∷◌, map, length}
 use Rattle.model.specs.Lists.{In, Distinct, part, position, member, concat}
 pub use Rattle.model.specs.declared.Region.{Region}
 use Rattle.model.specs.Plan.{Plan, route_of, vehicle_of, is_placed}

@@ -7,7 +7,7 @@ use Rattle.model.specs.Job.{Job, vehicle_count, stop_count}
 use Rattle.model.specs.Plan.{Plan, Lent, decode, route_of, vehicle_of, is_placed}
 use Rattle.model.specs.StopSet.{contains}
 use Rattle.model.specs.Cost.{cost}
-use Rattle.model.specs.Vans.{Move}
+use Rattle.model.specs.declared.Move.{Move}
 use Rattle.model.specs.Refusals.{looking, moving, MoveStop}
 use Rattle.model.specs.Calls.{view_answer, seen_left, move_answer, plan_left}
 

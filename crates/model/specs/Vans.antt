@@ -8,6 +8,7 @@ use Rattle.model.specs.Plan.{Plan, Route, route_of, vehicle_of, is_placed}
 use Rattle.model.specs.StopSet.{contains, set_of}
 use Rattle.model.specs.Cost.{over_routes, route_price, missed_cost}
 use Rattle.model.specs.Live.{unplaced_of, placing, cancelled}
+use Rattle.model.specs.declared.Move.{Move}
 
 -- ---- what a caller sees
 
@@ -31,12 +32,6 @@ unfolding view_from
 view vans P = view_from vans 0 P
 
 -- ---- a move
-
--- a stop, and the van and the place where it is to go
-pub record Move : Type 0 where
-  pub stop : ℕ
-  pub van : ℕ
-  pub place : ℕ
 
 -- stop s to place i of van k
 abbrev pub move_to : ℕ → ℕ → ℕ → Move

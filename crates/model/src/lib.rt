@@ -1,8 +1,10 @@
 // The plain data that the other crates share, so that their code and the definitions of specs/ speak of the same values.
 #![tactic(auto)]
 
+mod job;
 mod refusal;
 
+pub use job::{Job, Network, Settings};
 pub use refusal::Refusal;
 
 // The prices of a job: for each metre of a route, for its square, and for each stop that is not on a route.
@@ -19,6 +21,14 @@ pub struct Region {
     pub vehicle: usize,
     pub from: usize,
     pub to: usize,
+}
+
+// A stop that goes to a van, at a place of that van's route.
+#[derive(Clone, Copy)]
+pub struct Move {
+    pub stop: u32,
+    pub van: u32,
+    pub place: u32,
 }
 
 // A road that gets longer: its row and its column in the table of distances, and how many metres more it has.

@@ -1,6 +1,6 @@
 pub mod Order
 pub mod Looking
 pub mod Filling
-pub mod Adding
+pub mod Last
 pub mod Turns
 pub mod Taking

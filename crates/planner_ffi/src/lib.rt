@@ -10,7 +10,7 @@ ghost use Rattle.model.specs.Roads.{road_from};
 ghost use Rattle.model.specs.Numbers.{refused};
 ghost use Rattle.planner_ffi.specs.Border.{priced, value_left, walk, results, results_left, live_left, live_cost_left, HandsCost, HandsRebuilt, HandsPlan, HandsRun, HandsChange, HandsView, HandsMove, HandsRise};
 
-use model::{Prices, Refusal, Standing, Totals, Walk};
+use model::{Job, Move, Network, Prices, Refusal, Road, Settings, Standing, Totals, Walk};
 
 // The number of an answer: that of the refusal, or 0, and then the value goes where it is wanted.
 fn hand<T: Copy>(answer: Result<T, Refusal>, lent: &mut T) -> u32
@@ -88,12 +88,19 @@ pub extern "C" fn planner_weigh(
 ) -> u32
     ensures { HandsCost Weigh (asking (job_of vehicles.now stops.now locations distances.now (priced linear quadratic missed)) plan.now []) result cost.old cost.new plan.now }
 {
+    let network = Network {
+        vehicles,
+        stops,
+        locations,
+        distances,
+    };
     let prices = Prices {
         linear,
         quadratic,
         missed,
     };
-    let answer = planner::weigh(vehicles, stops, locations, distances, prices, plan);
+    let job = Job { network, prices };
+    let answer = planner::weigh(&job, plan);
     hand(answer, cost)
 }
 
@@ -108,7 +115,13 @@ pub extern "C" fn planner_start_plan(
 ) -> u32
     ensures { HandsPlan (asking (job_of vehicles.now stops.now locations distances.now unpriced) plan.old []) result plan.new }
 {
-    match planner::start_plan(vehicles, stops, locations, distances, plan) {
+    let network = Network {
+        vehicles,
+        stops,
+        locations,
+        distances,
+    };
+    match planner::start_plan(&network, plan) {
         Ok(()) => 0,
         Err(refusal) => refusal.into(),
     }
@@ -131,14 +144,19 @@ pub extern "C" fn planner_two_opt(
 ) -> u32
     ensures { HandsCost TwoOpt (asking (job_of vehicles.now stops.now locations distances.now (priced linear quadratic missed)) plan.old (first ∷ second ∷ [])) result cost.old cost.new plan.new }
 {
+    let network = Network {
+        vehicles,
+        stops,
+        locations,
+        distances,
+    };
     let prices = Prices {
         linear,
         quadratic,
         missed,
     };
-    let answer = planner::two_opt(
-        vehicles, stops, locations, distances, prices, plan, first, second,
-    );
+    let job = Job { network, prices };
+    let answer = planner::two_opt(&job, plan, first, second);
     hand(answer, cost)
 }
 
@@ -161,12 +179,19 @@ pub extern "C" fn planner_rebuild(
     ensures { HandsRebuilt (asking (job_of vehicles.now stops.now locations distances.now (priced linear quadratic missed)) plan.old given.now) result
         (walk cost.old begun.old completed.old) (walk cost.new begun.new completed.new) plan.new }
 {
+    let network = Network {
+        vehicles,
+        stops,
+        locations,
+        distances,
+    };
     let prices = Prices {
         linear,
         quadratic,
         missed,
     };
-    let answer = planner::rebuild(vehicles, stops, locations, distances, prices, plan, given);
+    let job = Job { network, prices };
+    let answer = planner::rebuild(&job, plan, given);
     hand_rebuilt(answer, cost, begun, completed)
 }
 
@@ -185,12 +210,19 @@ pub extern "C" fn planner_exhaustive(
 ) -> u32
     ensures { HandsCost Exhaustive (asking (job_of vehicles.now stops.now locations distances.now (priced linear quadratic missed)) plan.old []) result cost.old cost.new plan.new }
 {
+    let network = Network {
+        vehicles,
+        stops,
+        locations,
+        distances,
+    };
     let prices = Prices {
         linear,
         quadratic,
         missed,
     };
-    let answer = planner::exhaustive(vehicles, stops, locations, distances, prices, plan);
+    let job = Job { network, prices };
+    let answer = planner::exhaustive(&job, plan);
     hand(answer, cost)
 }
 
@@ -209,12 +241,19 @@ pub extern "C" fn planner_pruned(
 ) -> u32
     ensures { HandsCost Pruned (asking (job_of vehicles.now stops.now locations distances.now (priced linear quadratic missed)) plan.old []) result cost.old cost.new plan.new }
 {
+    let network = Network {
+        vehicles,
+        stops,
+        locations,
+        distances,
+    };
     let prices = Prices {
         linear,
         quadratic,
         missed,
     };
-    let answer = planner::pruned(vehicles, stops, locations, distances, prices, plan);
+    let job = Job { network, prices };
+    let answer = planner::pruned(&job, plan);
     hand(answer, cost)
 }
 
@@ -243,14 +282,24 @@ pub extern "C" fn planner_solve(
         (results start.new end.new rounds.new improving.new settled.new)
         plan.new }
 {
+    let network = Network {
+        vehicles,
+        stops,
+        locations,
+        distances,
+    };
     let prices = Prices {
         linear,
         quadratic,
         missed,
     };
-    let answer = planner::solve(
-        vehicles, stops, locations, distances, prices, smoothing, limit, draws, plan,
-    );
+    let job = Job { network, prices };
+    let settings = Settings {
+        smoothing,
+        limit,
+        draws,
+    };
+    let answer = planner::solve(&job, &settings, plan);
     hand_totals(answer, start, end, rounds, improving, settled)
 }
 
@@ -273,14 +322,19 @@ pub extern "C" fn planner_arrive(
     ensures { HandsChange Arrive (naming (job_of vehicles.now stops.now locations distances.now (priced linear quadratic missed)) plan.old live stop) result
         after.old after.new cost.old cost.new plan.new }
 {
+    let network = Network {
+        vehicles,
+        stops,
+        locations,
+        distances,
+    };
     let prices = Prices {
         linear,
         quadratic,
         missed,
     };
-    let answer = planner::arrive(
-        vehicles, stops, locations, distances, prices, plan, live, stop,
-    );
+    let job = Job { network, prices };
+    let answer = planner::arrive(&job, plan, live, stop);
     hand_change(answer, after, cost)
 }
 
@@ -303,14 +357,19 @@ pub extern "C" fn planner_cancel(
     ensures { HandsChange Cancel (naming (job_of vehicles.now stops.now locations distances.now (priced linear quadratic missed)) plan.old live stop) result
         after.old after.new cost.old cost.new plan.new }
 {
+    let network = Network {
+        vehicles,
+        stops,
+        locations,
+        distances,
+    };
     let prices = Prices {
         linear,
         quadratic,
         missed,
     };
-    let answer = planner::cancel(
-        vehicles, stops, locations, distances, prices, plan, live, stop,
-    );
+    let job = Job { network, prices };
+    let answer = planner::cancel(&job, plan, live, stop);
     hand_change(answer, after, cost)
 }
 
@@ -352,14 +411,20 @@ pub extern "C" fn planner_move_stop(
     ensures { HandsMove (moving (job_of vehicles.now stops.now locations distances.now (priced linear quadratic missed)) plan.old vans (move_to stop van place)) result
         change.old change.new plan.new }
 {
+    let network = Network {
+        vehicles,
+        stops,
+        locations,
+        distances,
+    };
     let prices = Prices {
         linear,
         quadratic,
         missed,
     };
-    let answer = planner::move_stop(
-        vehicles, stops, locations, distances, prices, plan, vans, stop, van, place,
-    );
+    let job = Job { network, prices };
+    let m = Move { stop, van, place };
+    let answer = planner::move_stop(&job, plan, vans, m);
     hand(answer, change)
 }
 
@@ -382,13 +447,19 @@ pub extern "C" fn planner_roadworks(
     ensures { HandsRise (lengthening (job_of vehicles.now stops.now locations distances.now (priced linear quadratic missed)) plan.now (road_from from to more)) result
         rise.old rise.new }
 {
+    let network = Network {
+        vehicles,
+        stops,
+        locations,
+        distances,
+    };
     let prices = Prices {
         linear,
         quadratic,
         missed,
     };
-    let answer = planner::roadworks(
-        vehicles, stops, locations, distances, prices, plan, from, to, more,
-    );
+    let job = Job { network, prices };
+    let road = Road { from, to, more };
+    let answer = planner::roadworks(&job, plan, road);
     hand(answer, rise)
 }

@@ -1,5 +1,5 @@
 -- The regions around the picks: how many stops they drain.
-use Prim.Native.Nat.{ℕ, suc, ◌+◌, ◌-◌, ◌*◌, ◌/◌, ◌≤◌, ◌<◌}
+use Prim.Native.Nat.{ℕ, suc, ◌-◌, ◌*◌, ◌/◌, ◌≤◌, ◌<◌}
 use native.Mathlib.Omega.{arith}
 use native.Mathlib.Nat.{div-add-mod'}
 use native.Mathlib.Decide.{dec_lt}
@@ -8,10 +8,12 @@ use mathlib.Core.Bool.{Bool, true, false, cond}
 use mathlib.Core.List.{List, [], ◌∷◌, map}
 use lib.ListN.{length, drop, length-append, length-take}
 use Rattle.model.specs.Lists.{member}
-use Rattle.model.specs.Plan.{Plan, route_of, vehicle_of, is_placed, decode, Lent, Sizes}
+use Rattle.model.specs.Plan.{Plan, route_of, vehicle_of, is_placed}
 use Rattle.model.specs.declared.Region.{Region}
 use Rattle.model.specs.Region.{keep_picks, region_of, regions, drained_from, drained}
 use Rattle.model.proofs.Regions.{regions-stretches}
+use Rattle.solution.specs.declared.plan.Plan as held
+use Rattle.solution.specs.Held.{routes}
 use Rattle.rebuild_words.specs.Gaps.{Gapped}
 
 -- ---- the stops that they drain
@@ -56,9 +58,9 @@ module _ (P : Plan) where
 
 -- ---- what the arrangement is given
 
-module _ (v n : ℕ) (xs picks : List ℕ) (Z : Sizes v n) (L : Lent v n xs) (gs : List Region) (few : length gs ≤ 2) (e : gs ≡ regions (decode v xs) picks) where
-  pub regions-gapped : Gapped v n xs gs
-  regions-gapped = record { sizes = Z; plan = L; few = omega arith; stretches = rw e (regions-stretches (decode v xs) picks) }
+module _ (p : held.Plan) (picks : List ℕ) (gs : List Region) (few : length gs ≤ 2) (e : gs ≡ regions (routes p) picks) where
+  pub regions-gapped : Gapped p gs
+  regions-gapped = record { few = omega arith; stretches = rw e (regions-stretches (routes p) picks) }
 
-  pub regions-drained : length (drained (decode v xs) gs) ≤ 7
-  regions-drained = rw e (drained-few (decode v xs) picks)
+  pub regions-drained : length (drained (routes p) gs) ≤ 7
+  regions-drained = rw e (drained-few (routes p) picks)

@@ -2,21 +2,22 @@
 use Rattle.std.specs.Prelude.{◌≡◌, ℕ, List}
 use Rattle.model.specs.Whole.{whole}
 use Rattle.model.specs.Job.{Job}
-use Rattle.model.specs.Plan.{encode, decode, Lent}
-use Rattle.model.specs.Legs.{Fits}
 use Rattle.model.specs.Cost.{cost}
 use Rattle.model.specs.Region.{regions}
 use Rattle.model.specs.Rebuild.{rebuild, begun, completed}
-use Rattle.model.specs.declared.Prices.{Prices}
 use Rattle.model.specs.declared.Walk.{Walk}
-use Rattle.delivery.specs.Costs.{Costs}
+use Rattle.distance.specs.declared.tariff.Tariff.{Tariff}
+use Rattle.solution.specs.declared.plan.Plan.{Plan}
+use Rattle.solution.specs.Held.{routes, Becomes}
+use Rattle.delivery.specs.Held.{IsJobOf, IsCost}
 
--- zs is the lent plan xs rebuilt around the picks, for every job that fits; r has its cost, how many fillings of the first region were begun,
--- and how many arrangements were completed
-pub record Leaves (t : List ℕ) (v n : ℕ) (p : Prices) (xs picks zs : List ℕ) (r : Walk) : Type 0 where
-  pub lent : Lent v n zs
-  pub costs : Costs t v n p (decode v zs) r.cost
-  pub plan : (J : Job) → Fits J t v n p → zs ≡ encode n (rebuild J (decode v xs) picks)
-  pub cost : (J : Job) → Fits J t v n p → r.cost ≡ whole (cost J (rebuild J (decode v xs) picks))
-  pub begun : r.begun ≡ begun (decode v xs) (regions (decode v xs) picks)
-  pub completed : r.completed ≡ completed (decode v xs) (regions (decode v xs) picks)
+-- new is the plan old rebuilt around the picks, for every job that fits; r has its cost, how many fillings of the first region were begun, and
+-- how many arrangements were completed
+pub record Leaves (t : Tariff) (old : Plan) (picks : List ℕ) (new : Plan) (r : Walk) : Type 0 where
+  pub vehicles : new.v ≡ old.v
+  pub stops : new.n ≡ old.n
+  pub costs : IsCost t new r.cost
+  pub plan : (J : Job) → IsJobOf J t old → Becomes old new (rebuild J (routes old) picks)
+  pub cost : (J : Job) → IsJobOf J t old → r.cost ≡ whole (cost J (rebuild J (routes old) picks))
+  pub begun : r.begun ≡ begun (routes old) (regions (routes old) picks)
+  pub completed : r.completed ≡ completed (routes old) (regions (routes old) picks)

@@ -16,13 +16,17 @@ use Rattle.model.specs.declared.Prices.{Prices}
 use Rattle.model.specs.declared.Region.{Region}
 use Rattle.model.specs.Lists.{In}
 use Rattle.model.specs.Whole.{exact, whole}
-use Rattle.model.specs.Plan.{Plan, Route, route_of, decode}
+use Rattle.model.specs.Plan.{Plan, Route, route_of}
 use Rattle.model.specs.Region.{vehicles_of, Stretches}
 use Rattle.model.specs.Cost.{over_routes}
+use Rattle.model.proofs.PlanForm.{lent_length, lent_placed}
 use Rattle.model.proofs.Regions.{first-stretch, later-stretches}
 use Rattle.whole.proofs.Laws.{sub-whole, amount-is}
-use Rattle.delivery.specs.Costs.{table_price, table_driving, table_cost, Ready}
-use Rattle.delivery.proofs.Laws.{cost-small, lent-few}
+use Rattle.distance.specs.declared.tariff.Tariff.{Tariff}
+use Rattle.solution.specs.declared.plan.Plan as held
+use Rattle.solution.specs.Held.{routes}
+use Rattle.delivery.specs.Costs.{table_price, table_driving, table_cost}
+use Rattle.delivery.proofs.Laws.{cost-small}
 use Rattle.rebuild_words.specs.Gaps.{no_region}
 use Rattle.rebuild_tables.specs.Table.{gap_driving}
 use Rattle.rebuild_arrange.specs.Arranged.{Arrangeable}
@@ -89,17 +93,17 @@ module _ (t : List ℕ) (p : Prices) where
 -- ---- the regions' routes subtracted one after another
 
 -- what the plan costs without the regions' routes
-abbrev pub rest_of : List ℕ → ℕ → ℕ → Prices → List ℕ → List Region → ℕ
-rest_of t v n p xs regions = table_cost t p n (decode v xs) - gap_driving t p (decode v xs) regions
+abbrev pub rest_of : Tariff → held.Plan → List Region → ℕ
+rest_of t p regions = table_cost t.legs.table t.prices p.n (routes p) - gap_driving t.legs.table t.prices (routes p) regions
 
 -- and with those of the regions from q on
-abbrev pub left_from : List ℕ → ℕ → ℕ → Prices → List ℕ → List Region → ℕ → ℕ
-left_from t v n p xs regions q = rest_of t v n p xs regions + gap_driving t p (decode v xs) (drop q regions)
+abbrev pub left_from : Tariff → held.Plan → List Region → ℕ → ℕ
+left_from t p regions q = rest_of t p regions + gap_driving t.legs.table t.prices (routes p) (drop q regions)
 
-pub record Left (t : List ℕ) (v n : ℕ) (p : Prices) (xs : List ℕ) (regions : List Region) (q : ℕ) (r : Float) : Type 0 where
+pub record Left (t : Tariff) (p : held.Plan) (regions : List Region) (q : ℕ) (r : Float) : Type 0 where
   pub up_to : q ≤ length regions
-  pub small : left_from t v n p xs regions q ≤ exact
-  pub sum : r ≡ whole (left_from t v n p xs regions q)
+  pub small : left_from t p regions q ≤ exact
+  pub sum : r ≡ whole (left_from t p regions q)
 
 -- the first region's route stands apart
 first-apart : (t : List ℕ) (p : Prices) (P : Plan) (g : Region) (gs : List Region)
@@ -111,28 +115,38 @@ none_left : (t : List ℕ) (p : Prices) (P : Plan) → gap_driving t p P [] ≡ 
 unfolding gap_driving
 none_left t p P = refl
 
-module _ (t : List ℕ) (v n : ℕ) (p : Prices) (xs : List ℕ) (regions : List Region) (A : Arrangeable t v n p xs regions) where
+module _ (tariff : Tariff) (plan : held.Plan) (regions : List Region) (A : Arrangeable plan regions) where
+  abbrev t : List ℕ
+  t = tariff.legs.table
+
+  abbrev p : Prices
+  p = tariff.prices
+
+  abbrev n : ℕ
+  n = plan.n
+
   abbrev P : Plan
-  P = decode v xs
+  P = routes plan
 
   abbrev gs : List Region
   gs = regions
 
-  pub plan-ready : Ready t v n p xs
-  plan-ready = record { legs = A.legs; sizes = A.gapped.sizes; prices = A.prices; plan = A.gapped.plan }
+  cost-exact : table_cost t p n P ≤ exact
+  cost-exact = omega (
+    arith,
+    cost-small t p tariff.legs.lengths tariff.affordable n P plan.sizes.stops
+        (omega (arith, lent_length plan.v n _ plan.lent, lent_placed plan.v n _ plan.lent, plan.sizes.vehicles, plan.sizes.stops)),
+  )
 
-  pub cost-exact : table_cost t p n P ≤ exact
-  cost-exact = omega (arith, cost-small t p A.legs A.prices n P A.gapped.sizes.stops (lent-few t v n p xs plan-ready))
-
-  all_left : rest_of t v n p xs regions + gap_driving t p P gs ≡ table_cost t p n P
+  all_left : rest_of tariff plan regions + gap_driving t p P gs ≡ table_cost t p n P
   unfolding table_cost
   all_left = omega (arith, gap-le t p P gs A.gapped.stretches)
 
-  pub left-none : (c : Float) → c ≡ whole (table_cost t p n P) → Left t v n p xs regions 0 c
+  pub left-none : (c : Float) → c ≡ whole (table_cost t p n P) → Left tariff plan regions 0 c
   left-none c e = record { up_to = omega arith; small = omega (arith, all_left, cost-exact); sum = e ∙ ap whole (sym all_left) }
 
-  pub left-more : (q : ℕ) (r : Float) → Left t v n p xs regions q r → q < length gs
-      → (d : Float) → d ≡ whole (table_price t p (get_or gs q no_region).vehicle (route_of P (get_or gs q no_region).vehicle)) → Left t v n p xs regions (q + 1) (sub binary64 r d)
+  pub left-more : (q : ℕ) (r : Float) → Left tariff plan regions q r → q < length gs
+      → (d : Float) → d ≡ whole (table_price t p (get_or gs q no_region).vehicle (route_of P (get_or gs q no_region).vehicle)) → Left tariff plan regions (q + 1) (sub binary64 r d)
   left-more q r L h d ed =
       let g : Region = get_or gs q no_region in
       let a : ℕ = table_price t p g.vehicle (route_of P g.vehicle) in
@@ -142,21 +156,21 @@ module _ (t : List ℕ) (v n : ℕ) (p : Prices) (xs : List ℕ) (regions : List
       ∙ ap (λ (i : ℕ). gap_driving t p P (g ∷ drop i gs)) (sym (add-one q))
       ∙ first-apart t p P g (drop (q + 1) gs)
       in
-      let f : left_from t v n p xs regions q - a ≡ left_from t v n p xs regions (q + 1) = omega arith in
+      let f : left_from tariff plan regions q - a ≡ left_from tariff plan regions (q + 1) = omega arith in
       record {
         up_to = omega arith;
         small = omega (arith, L.small);
         sum = ap₂ (sub binary64) L.sum ed
-            ∙ sub-whole (left_from t v n p xs regions q) a L.small (omega (arith, L.small)) (omega arith)
+            ∙ sub-whole (left_from tariff plan regions q) a L.small (omega (arith, L.small)) (omega arith)
             ∙ ap whole f;
       }
 
-  pub left-all : (q : ℕ) (r : Float) → Left t v n p xs regions q r → length gs ≤ q → Based t v n p xs regions r
+  pub left-all : (q : ℕ) (r : Float) → Left tariff plan regions q r → length gs ≤ q → Based tariff plan regions r
   left-all q r L h =
-      let e : left_from t v n p xs regions q ≡ rest_of t v n p xs regions =
+      let e : left_from tariff plan regions q ≡ rest_of tariff plan regions =
       let n₀ = ap (gap_driving t p P) (drop_of_length-le gs h) ∙ none_left t p P in omega arith
       in
       record {
-        known = (left_from t v n p xs regions q, L.small, L.sum);
-        rest = omega (arith, amount-is r (left_from t v n p xs regions q) L.small L.sum, e, all_left);
+        known = (left_from tariff plan regions q, L.small, L.sum);
+        rest = omega (arith, amount-is r (left_from tariff plan regions q) L.small L.sum, e, all_left);
       }

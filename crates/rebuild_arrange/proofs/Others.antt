@@ -9,6 +9,7 @@ use Rattle.model.specs.declared.Prices.{Prices}
 use Rattle.model.specs.Whole.{exact, whole, amount, IsWhole}
 use Rattle.model.specs.Cost.{missed_cost}
 use Rattle.whole.proofs.Laws.{add-whole, amount-is, whole-amount}
+use Rattle.distance.specs.declared.tariff.Tariff.{Tariff}
 use Rattle.rebuild_fillings.specs.Walk.{empties}
 use Rattle.rebuild_ways.specs.declared.Ways.{Ways}
 use Rattle.rebuild_ways.specs.Ways.{vacant_at, base_at}
@@ -23,7 +24,7 @@ pub record Adding (ways : Ways) (p m q : ℕ) (sum : Float) : Type 0 where
   pub known : IsWhole sum
   pub rest : amount sum + driven_by ways q (empties (p - q)) ≡ beside_first ways p m
 
-module _ (ways : Ways) (p m : ℕ) (c : Prices) (A : Addable ways p m c) where
+module _ (t : Tariff) (ways : Ways) (p m : ℕ) (A : Addable t ways p m) where
   -- a sum of two that is no more than the whole
   sum-known : (a b : Float) (x y : ℕ) → a ≡ whole x → b ≡ whole y → x + y ≤ beside_first ways p m
       → IsWhole (add binary64 a b) × (amount (add binary64 a b) ≡ x + y)
@@ -32,10 +33,10 @@ module _ (ways : Ways) (p m : ℕ) (c : Prices) (A : Addable ways p m c) where
       let e : add binary64 a b ≡ whole (x + y) = ap₂ (add binary64) ea eb ∙ add-whole x y (omega arith) (omega arith) in
       ((x + y, small, e), amount-is (add binary64 a b) (x + y) small e)
 
-  pub adding-none : (b d : Float) → b ≡ whole (base_at ways) → d ≡ whole (missed_cost c m) → Adding ways p m 1 (add binary64 b d)
+  pub adding-none : (b d : Float) → b ≡ whole (base_at ways) → d ≡ whole (missed_cost t.prices m) → Adding ways p m 1 (add binary64 b d)
   adding-none b d eb ed =
       let s = ap (λ (x : Prices). missed_cost x m) A.prices in
-      let k = sum-known b d (base_at ways) (missed_cost c m) eb ed (omega arith) in
+      let k = sum-known b d (base_at ways) (missed_cost t.prices m) eb ed (omega arith) in
       record { from = omega arith; up_to = A.some; known = k.0; rest = omega (arith, k.1, s) }
 
   pub adding-more : (q : ℕ) (sum : Float) → Adding ways p m q sum → q < p → (d : Float) → d ≡ whole (vacant_at ways q) → Adding ways p m (q + 1) (add binary64 sum d)

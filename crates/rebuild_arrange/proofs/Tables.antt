@@ -10,11 +10,14 @@ use lib.Seq.{length-take-le, get_or-drop, get_or-take}
 use Rattle.model.specs.declared.Prices.{Prices}
 use Rattle.model.specs.declared.Region.{Region}
 use Rattle.model.specs.Whole.{exact}
-use Rattle.model.specs.Plan.{Plan, Route, route_of, decode}
+use Rattle.model.specs.Plan.{Plan, Route, route_of}
 use Rattle.model.specs.Region.{drained}
 use Rattle.model.specs.Legs.{depot, Affordable}
 use Rattle.model.specs.Cost.{price, cost}
 use Rattle.distance.proofs.Laws.{way-small}
+use Rattle.distance.specs.declared.tariff.Tariff.{Tariff}
+use Rattle.solution.specs.declared.plan.Plan as held
+use Rattle.solution.specs.Held.{routes}
 use Rattle.delivery.specs.Costs.{table_cost}
 use Rattle.rebuild_words.specs.Gaps.{no_region}
 use Rattle.rebuild_survey.specs.declared.Gap.{Gap}
@@ -36,9 +39,9 @@ use Rattle.rebuild_arrange.specs.Prepared.{Based, Endable, EndsOf, Tableable, Te
 
 -- ---- the frame of a plan
 
-module _ (xs : List ℕ) (v n : ℕ) (regions : List Region) (f : Frame) (F : Framing xs v n regions f) where
-  pub same-plan : framed_plan f ≡ decode v xs
-  same-plan = ap₂ decode F.routes F.same
+module _ (plan : held.Plan) (regions : List Region) (f : Frame) (F : Framing plan regions f) where
+  pub same-plan : framed_plan f ≡ routes plan
+  same-plan = ap routes F.same
 
   pub same-regions : framed_regions f ≡ regions
   same-regions = F.spans
@@ -46,14 +49,14 @@ module _ (xs : List ℕ) (v n : ℕ) (regions : List Region) (f : Frame) (F : Fr
   pub same-gaps : gap_count f ≡ length regions
   same-gaps = F.framed.gaps ∙ ap length same-regions
 
-  same-stops : drained (framed_plan f) (framed_regions f) ≡ stops_from v xs regions
+  same-stops : drained (framed_plan f) (framed_regions f) ≡ stops_from plan regions
   same-stops = ap₂ drained same-plan same-regions
 
-  pub same-drained : drained_count f ≡ length (stops_from v xs regions)
+  pub same-drained : drained_count f ≡ length (stops_from plan regions)
   same-drained = drained-many f F.framed ∙ ap length same-stops
 
   -- the drained stops stand in the frame
-  stop-at : (i : ℕ) → 1 ≤ i → i ≤ length (stops_from v xs regions) → get_or f.listed i 0 ≡ stop_at (stops_from v xs regions) i
+  stop-at : (i : ℕ) → 1 ≤ i → i ≤ length (stops_from plan regions) → get_or f.listed i 0 ≡ stop_at (stops_from plan regions) i
   stop-at i a b =
       let h : i - 1 < drained_count f = omega (arith, same-drained) in
       let k : 1 + (i - 1) ≡ i = omega arith in
@@ -91,10 +94,13 @@ three-at g gaps (suc zero) h = refl
 three-at g gaps (suc (suc zero)) h = refl
 three-at g gaps (suc (suc (suc q))) h = absurd (omega arith)
 
-module _ (t : List ℕ) (v n : ℕ) (p : Prices) (xs : List ℕ) (regions : List Region) (f : Frame) (c : Float) (T : Tableable t v n p xs regions f c)
-    (gaps : List Gap) (S : Surveyed t v xs regions gaps) (U : Unsurveyed regions (replicate 3 no_gap) gaps) where
+module _ (tariff : Tariff) (plan : held.Plan) (regions : List Region) (f : Frame) (c : Float) (T : Tableable tariff plan regions f c)
+    (gaps : List Gap) (S : Surveyed tariff.legs plan regions gaps) (U : Unsurveyed regions (replicate 3 no_gap) gaps) where
+  abbrev t : List ℕ
+  t = tariff.legs.table
+
   abbrev P : Plan
-  P = decode v xs
+  P = routes plan
 
   abbrev gs : List Region
   gs = regions
@@ -105,11 +111,11 @@ module _ (t : List ℕ) (v n : ℕ) (p : Prices) (xs : List ℕ) (regions : List
       let g : Region = get_or regions q no_region in
       let k : ℕ = g.vehicle in
       let r : Route = route_of P k in
-      let u = turn v n xs regions T.plan.gapped q h in
+      let u = turn plan regions T.plan.gapped q h in
       omega (
         arith,
         measured-way t k r g.from g.to (gap_at gaps q) (S q h) [],
-        way-small t T.plan.legs (depot k) (take g.from r ++ drop g.to r) (depot k),
+        way-small t tariff.legs.lengths (depot k) (take g.from r ++ drop g.to r) (depot k),
         length-append (take g.from r) (drop g.to r),
         length-take-le g.from r (omega (arith, u.ordered, u.within)),
         length-drop g.to r,
@@ -136,15 +142,13 @@ module _ (t : List ℕ) (v n : ℕ) (p : Prices) (xs : List ℕ) (regions : List
 
   -- ---- the table
 
-  module _ (starts ends : List ℕ) (Es : EndsOf f (three (λ g. g.before) gaps) starts) (Ee : EndsOf f (three (λ g. g.after) gaps) ends) (base : Float) (B : Based t v n p xs regions base)
+  module _ (starts ends : List ℕ) (Es : EndsOf f (three (λ g. g.before) gaps) starts) (Ee : EndsOf f (three (λ g. g.after) gaps) ends) (base : Float) (B : Based tariff plan regions base)
       (k : ℕ) (ek : k ≡ length regions) where
     all-gaps : k ≡ length gs
     all-gaps = ek
 
-    pub fillable : Fillable t p starts ends gaps k base
+    pub fillable : Fillable starts ends gaps k base
     fillable = record {
-      legs = T.plan.legs;
-      affordable = T.plan.prices;
       from = Es.small;
       to = Ee.small;
       few = omega (arith, all-gaps, T.plan.gapped.few);
@@ -152,32 +156,30 @@ module _ (t : List ℕ) (v n : ℕ) (p : Prices) (xs : List ℕ) (regions : List
       known = B.known;
     }
 
-    module _ (ways : Ways) (W : Filled t p starts ends gaps k base ways) where
-      grounded : Grounded t v n p xs regions gaps starts ends base ways
+    module _ (ways : Ways) (W : Filled tariff starts ends gaps k base ways) where
+      grounded : Grounded tariff plan regions gaps starts ends base ways
       grounded = record {
-        legs = T.plan.legs;
-        prices = T.plan.prices;
         gapped = T.plan.gapped;
         surveyed = S;
         few = T.plan.few;
-        leaving = λ i a b. Es.stops i a (omega (arith, T.plan.few)) ∙ stop-at xs v n regions f T.framing i a b;
-        reaching = λ i a b. Ee.stops i a (omega (arith, T.plan.few)) ∙ stop-at xs v n regions f T.framing i a b;
+        leaving = λ i a b. Es.stops i a (omega (arith, T.plan.few)) ∙ stop-at plan regions f T.framing i a b;
+        reaching = λ i a b. Ee.stops i a (omega (arith, T.plan.few)) ∙ stop-at plan regions f T.framing i a b;
         before = λ q h. let l : q < 3 = omega (arith, T.plan.gapped.few) in Es.gaps q l ∙ three-at (λ g. g.before) gaps q l;
         after = λ q h. let l : q < 3 = omega (arith, T.plan.gapped.few) in Ee.gaps q l ∙ three-at (λ g. g.after) gaps q l;
         rest = B.rest;
-        filled = subst (λ (j : ℕ). Filled t p starts ends gaps j base ways) all-gaps W;
+        filled = subst (λ (j : ℕ). Filled tariff starts ends gaps j base ways) all-gaps W;
       }
 
       -- a filling of the frame fills the regions
-      full : (fill : Filling) → FullIn f fill → Full (length gs) (length (stops_from v xs regions)) fill
-      full fill F = subst (λ (m : ℕ). Full (length gs) m fill) (same-drained xs v n regions f T.framing)
-          (subst (λ (j : ℕ). Full j (drained_count f) fill) (same-gaps xs v n regions f T.framing) F)
+      full : (fill : Filling) → FullIn f fill → Full (length gs) (length (stops_from plan regions)) fill
+      full fill F = subst (λ (m : ℕ). Full (length gs) m fill) (same-drained plan regions f T.framing)
+          (subst (λ (j : ℕ). Full j (drained_count f) fill) (same-gaps plan regions f T.framing) F)
 
       same_by : (fill : Filling) → plan_by f fill ≡ plan_at P gs fill
-      same_by fill = ap₂ (λ (X : Plan) (hs : List Region). plan_at X hs fill) (same-plan xs v n regions f T.framing) (same-regions xs v n regions f T.framing)
+      same_by fill = ap₂ (λ (X : Plan) (hs : List Region). plan_at X hs fill) (same-plan plan regions f T.framing) (same-regions plan regions f T.framing)
 
-      same-cost : (fill : Filling) → cost_by ways (drained_count f) fill ≡ cost_by ways (length (stops_from v xs regions)) fill
-      same-cost fill = ap (λ (m : ℕ). cost_by ways m fill) (same-drained xs v n regions f T.framing)
+      same-cost : (fill : Filling) → cost_by ways (drained_count f) fill ≡ cost_by ways (length (stops_from plan regions)) fill
+      same-cost fill = ap (λ (m : ℕ). cost_by ways m fill) (same-drained plan regions f T.framing)
 
       vacant-route : (q : ℕ) → q < k → vacant_at ways q ≡ price (prices_at ways) (route_by ways q [])
       unfolding route_by
@@ -185,26 +187,26 @@ module _ (t : List ℕ) (v n : ℕ) (p : Prices) (xs : List ℕ) (regions : List
 
       short : (fill : Filling) → FullIn f fill → (q : ℕ) → q < gap_count f → route_by ways q (get_or fill q []) ≤ 16000000
       short fill F q h =
-          short-by t v n p xs regions gaps starts ends base ways grounded fill (full fill F) q (omega (arith, same-gaps xs v n regions f T.framing))
+          short-by tariff plan regions gaps starts ends base ways grounded fill (full fill F) q (omega (arith, same-gaps plan regions f T.framing))
 
       small : (fill : Filling) → FullIn f fill → cost_by ways (drained_count f) fill ≤ exact
-      small fill F = omega (arith, same-cost fill, small_by t v n p xs regions gaps starts ends base ways grounded fill (full fill F))
+      small fill F = omega (arith, same-cost fill, small_by tariff plan regions gaps starts ends base ways grounded fill (full fill F))
 
-      pub tells : Tells t v n p f ways
+      pub tells : Tells tariff plan f ways
       tells = record {
         tabled = record {
           framed = T.framing.framed;
-          prices = subst Affordable (sym W.priced) T.plan.prices;
-          vacant = λ q h. vacant-route q (omega (arith, all-gaps, same-gaps xs v n regions f T.framing));
+          prices = subst Affordable (sym W.priced) tariff.affordable;
+          vacant = λ q h. vacant-route q (omega (arith, all-gaps, same-gaps plan regions f T.framing));
           short = short;
           small = small;
         };
         prices = W.priced;
         costs = λ fill F.
-            same-cost fill ∙ cost-by t v n p xs regions gaps starts ends base ways grounded fill (full fill F) ∙ ap (table_cost t p n) (sym (same_by fill));
+            same-cost fill ∙ cost-by tariff plan regions gaps starts ends base ways grounded fill (full fill F) ∙ ap (table_cost t tariff.prices plan.n) (sym (same_by fill));
         priced = λ J fits. record {
-          total = fits.stops ∙ sym T.framing.total;
+          total = fits.stops ∙ ap (λ (p : held.Plan). p.n) (sym T.framing.same);
           each = λ fill F.
-              ap (cost J) (same_by fill) ∙ job-by t v n p xs regions gaps starts ends base ways grounded fill (full fill F) J fits ∙ sym (same-cost fill);
+              ap (cost J) (same_by fill) ∙ job-by tariff plan regions gaps starts ends base ways grounded fill (full fill F) J fits ∙ sym (same-cost fill);
         };
       }

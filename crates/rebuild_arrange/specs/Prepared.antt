@@ -1,13 +1,14 @@
 -- What is known before the walk begins.
 use Rattle.std.specs.Prelude.{◌≡◌, ℕ, ◌+◌, ◌-◌, ◌≤◌, ◌<◌, List, [], Float, get_or}
-use Rattle.model.specs.declared.Prices.{Prices}
 use Rattle.model.specs.declared.Region.{Region}
 use Rattle.model.specs.Whole.{exact, whole, amount, IsWhole}
 use Rattle.model.specs.Job.{Job}
-use Rattle.model.specs.Plan.{decode}
-use Rattle.model.specs.Legs.{Affordable, Fits}
 use Rattle.model.specs.Cost.{price, missed_cost}
+use Rattle.distance.specs.declared.tariff.Tariff.{Tariff}
+use Rattle.solution.specs.declared.plan.Plan.{Plan}
+use Rattle.solution.specs.Held.{routes}
 use Rattle.delivery.specs.Costs.{table_cost}
+use Rattle.delivery.specs.Held.{IsJobOf}
 use Rattle.rebuild_fillings.specs.Walk.{Filling, empties}
 use Rattle.rebuild_tables.specs.declared.Frame.{Frame}
 use Rattle.rebuild_tables.specs.Frame.{drained_count, plan_by, Framing}
@@ -20,9 +21,9 @@ use Rattle.rebuild_frame.specs.Listing.{StopsSmall}
 use Rattle.rebuild_arrange.specs.Arranged.{Arrangeable}
 
 -- r is what the plan costs without the regions' routes
-pub record Based (t : List ℕ) (v n : ℕ) (p : Prices) (xs : List ℕ) (regions : List Region) (r : Float) : Type 0 where
+pub record Based (t : Tariff) (p : Plan) (regions : List Region) (r : Float) : Type 0 where
   pub known : IsWhole r
-  pub rest : amount r + gap_driving t p (decode v xs) regions ≡ table_cost t p n (decode v xs)
+  pub rest : amount r + gap_driving t.legs.table t.prices (routes p) regions ≡ table_cost t.legs.table t.prices p.n (routes p)
 
 -- the drained stops of a frame, and the places on one side of the gaps, are places of the leg table
 pub record Endable (f : Frame) (places : List ℕ) : Type 0 where
@@ -40,9 +41,8 @@ abbrev pub beside_first : Ways → ℕ → ℕ → ℕ
 beside_first ways p m = base_at ways + (driven_by ways 1 (empties (p - 1)) + missed_cost (prices_at ways) m)
 
 -- what is asked to add that up
-pub record Addable (ways : Ways) (p m : ℕ) (c : Prices) : Type 0 where
-  pub affordable : Affordable c
-  pub prices : prices_at ways ≡ c
+pub record Addable (t : Tariff) (ways : Ways) (p m : ℕ) : Type 0 where
+  pub prices : prices_at ways ≡ t.prices
   pub some : 1 ≤ p
   pub few : p ≤ 3
   pub left : m ≤ 7
@@ -50,15 +50,15 @@ pub record Addable (ways : Ways) (p m : ℕ) (c : Prices) : Type 0 where
   pub small : beside_first ways p m ≤ exact
 
 -- what is asked to fill the table of ways of a framed plan, which costs so much
-pub record Tableable (t : List ℕ) (v n : ℕ) (p : Prices) (xs : List ℕ) (regions : List Region) (f : Frame) (c : Float) : Type 0 where
-  pub plan : Arrangeable t v n p xs regions
-  pub framing : Framing xs v n regions f
+pub record Tableable (t : Tariff) (p : Plan) (regions : List Region) (f : Frame) (c : Float) : Type 0 where
+  pub plan : Arrangeable p regions
+  pub framing : Framing p regions f
   pub near : StopsSmall f
-  pub cost : c ≡ whole (table_cost t p n (decode v xs))
+  pub cost : c ≡ whole (table_cost t.legs.table t.prices p.n (routes p))
 
 -- the table tells the routes and the costs of all arrangements of the frame
-pub record Tells (t : List ℕ) (v n : ℕ) (p : Prices) (f : Frame) (ways : Ways) : Type 0 where
+pub record Tells (t : Tariff) (p : Plan) (f : Frame) (ways : Ways) : Type 0 where
   pub tabled : Tabled ways f
-  pub prices : prices_at ways ≡ p
-  pub costs : (xs : Filling) → FullIn f xs → cost_by ways (drained_count f) xs ≡ table_cost t p n (plan_by f xs)
-  pub priced : (J : Job) → Fits J t v n p → Priced J ways f
+  pub prices : prices_at ways ≡ t.prices
+  pub costs : (xs : Filling) → FullIn f xs → cost_by ways (drained_count f) xs ≡ table_cost t.legs.table t.prices p.n (plan_by f xs)
+  pub priced : (J : Job) → IsJobOf J t p → Priced J ways f

@@ -104,7 +104,7 @@ module _ (f : Frame) (F : Framed f) where
   gaps-few = omega (arith, F.gaps, F.gapped.few)
 
   pub stops-below : Below 64 (drained P gs)
-  stops-below s h = omega (arith, F.gapped.plan.below s (omega (arith, drained-le P gs F.gapped.stretches s)), F.gapped.sizes.stops)
+  stops-below s h = omega (arith, f.plan.lent.below s (omega (arith, drained-le P gs F.gapped.stretches s)), f.plan.sizes.stops)
 
   stops-long : length (stops_in f) ≡ drained_count f
   stops-long = length-take-le (drained_count f) (drop 1 f.listed) (rw length-drop (omega (arith, F.places, F.few)))

@@ -6,16 +6,18 @@ use mathlib.Core.Path.{◌≡◌, refl, sym, ap, ap₂, ◌∙◌}
 use mathlib.Core.List.{List, ◌++◌}
 use lib.ListN.{length, get_or, take, drop, replicate, length-append, length-drop, length-replicate}
 use lib.Seq.{take_at, drop_at, get_or-take, get_or-drop, length-take-le}
-use Rattle.model.specs.Plan.{Plan, decode, placed}
+use Rattle.model.specs.Plan.{Plan, placed}
 use Rattle.model.specs.declared.Region.{Region}
 use Rattle.model.specs.Region.{drained}
 use Rattle.model.proofs.Counts.{Below, below_at}
 use Rattle.model.proofs.Arrangements.{drained-le}
+use Rattle.solution.specs.declared.plan.Plan as held
+use Rattle.solution.specs.Held.{routes}
 use Rattle.pasting.specs.Put.{put}
 use Rattle.pasting.proofs.Put.{length-put, drop-put}
 use Rattle.rebuild_words.specs.Gaps.{no_region, Gapped}
 use Rattle.rebuild_tables.specs.declared.Frame.{Frame}
-use Rattle.rebuild_tables.specs.Frame.{plan_in, framed_regions, stops_in, Framing}
+use Rattle.rebuild_tables.specs.Frame.{framed_plan, framed_regions, stops_in, Framing}
 use Rattle.rebuild_frame.specs.Listing.{StopsSmall}
 
 -- ---- a list that is put into another, number by number
@@ -23,9 +25,6 @@ use Rattle.rebuild_frame.specs.Listing.{StopsSmall}
 module _ (d s : List ℕ) (at : ℕ) (h : at + length s ≤ length d) (new : List ℕ) (e : new ≡ put d at s) where
   front : length (take at d) ≡ at
   front = length-take-le at d (omega arith)
-
-  pub put-long : length new ≡ length d
-  put-long = ap length e ∙ length-put d s at h
 
   -- before it
   pub put_first : (i : ℕ) → i < at → get_or new i 0 ≡ get_or d i 0
@@ -66,20 +65,18 @@ backed xs k n d e h = omega (arith, length-append xs (drop k (replicate n d)), l
 -- ---- the frame
 
 -- what stands in a frame that is filled for a plan and its regions
-pub record Parts (plan : List ℕ) (v n : ℕ) (regions : List Region) (f : Frame) : Type 0 where
+pub record Parts (plan : held.Plan) (regions : List Region) (f : Frame) : Type 0 where
   pub gaps : f.gaps ≡ length regions
-  pub routes : f.routes ≡ v
-  pub total : f.stops ≡ n
-  pub on_routes : f.placed ≡ placed (decode v plan)
-  pub off_routes : f.drained ≡ length (drained (decode v plan) regions)
+  pub on_routes : f.placed ≡ placed (routes plan)
+  pub off_routes : f.drained ≡ length (drained (routes plan) regions)
   pub spans : f.regions ≡ regions ++ drop (length regions) (replicate 3 no_region)
-  pub lent : f.plan ≡ plan ++ drop (length plan) (replicate 80 0)
-  pub listed : f.listed ≡ put (replicate 8 0) 1 (drained (decode v plan) regions)
+  pub same : f.plan ≡ plan
+  pub listed : f.listed ≡ put (replicate 8 0) 1 (drained (routes plan) regions)
 
-module _ (plan : List ℕ) (v n : ℕ) (regions : List Region) (G : Gapped v n plan regions)
-    (few : length (drained (decode v plan) regions) ≤ 7) (f : Frame) (K : Parts plan v n regions f) where
+module _ (plan : held.Plan) (regions : List Region) (G : Gapped plan regions)
+    (few : length (drained (routes plan) regions) ≤ 7) (f : Frame) (K : Parts plan regions f) where
   abbrev P : Plan
-  P = decode v plan
+  P = routes plan
 
   abbrev stops : List ℕ
   stops = drained P regions
@@ -96,17 +93,11 @@ module _ (plan : List ℕ) (v n : ℕ) (regions : List Region) (G : Gapped v n p
       (ap (take (length stops)) (drop_at (take 1 (replicate 8 0)) (stops ++ drop (1 + length stops) (replicate 8 0)) 1 refl)
       ∙ take_at stops (drop (1 + length stops) (replicate 8 0)) (length stops) refl)
 
-  plan-front : take (v + n) f.plan ≡ plan
-  plan-front = rw K.lent (take_at plan (drop (length plan) (replicate 80 0)) (v + n) G.plan.long)
-
-  plan-same : plan_in f ≡ plan
-  plan-same = rw (K.routes, K.total) plan-front
-
-  plan-decoded : decode f.routes (plan_in f) ≡ P
-  plan-decoded = ap₂ decode K.routes plan-same
+  plan-same : framed_plan f ≡ P
+  plan-same = ap routes K.same
 
   stops-below : Below 64 stops
-  stops-below s h = omega (arith, G.plan.below s (omega (arith, drained-le P regions G.stretches s)), G.sizes.stops)
+  stops-below s h = omega (arith, plan.lent.below s (omega (arith, drained-le P regions G.stretches s)), plan.sizes.stops)
 
   pub small-parts : StopsSmall f
   small-parts i =
@@ -121,21 +112,18 @@ module _ (plan : List ℕ) (v n : ℕ) (regions : List Region) (G : Gapped v n p
         ]
       ]
 
-  pub framing : 0 < length regions → Framing plan v n regions f
+  pub framing : 0 < length regions → Framing plan regions f
   framing some = record {
     framed = record {
       spans = ap length K.spans ∙ backed regions (length regions) 3 no_region refl G.few;
       places = places;
-      long = ap length K.lent ∙ backed plan (length plan) 80 0 refl (omega (arith, G.plan.long, G.sizes.vehicles, G.sizes.stops));
       some = omega (arith, K.gaps);
       gaps = K.gaps ∙ sym (ap length regions-same);
-      gapped = rw (K.routes, K.total, regions-same, plan-front) G;
+      gapped = rw (K.same, regions-same) G;
       few = omega (arith, K.off_routes);
-      stops = stops_same ∙ sym (ap₂ drained plan-decoded regions-same);
-      placed = K.on_routes ∙ ap placed (sym plan-decoded);
+      stops = stops_same ∙ sym (ap₂ drained plan-same regions-same);
+      placed = K.on_routes ∙ ap placed (sym plan-same);
     };
-    routes = K.routes;
-    total = K.total;
-    same = plan-same;
+    same = K.same;
     spans = regions-same;
   }

@@ -7,10 +7,12 @@ use mathlib.Core.List.{List, [], ◌∷◌, ◌++◌, map, append-nil}
 use lib.ListN.{length, get_or, take, drop, length-append, take-append-drop}
 use lib.Seq.{take-suc, take_all, length-take-le}
 use Rattle.model.specs.Lists.{up_from, concat, part}
-use Rattle.model.specs.Plan.{Plan, Route, route_of, decode}
+use Rattle.model.specs.Plan.{Plan, Route, route_of}
 use Rattle.model.specs.declared.Region.{Region}
 use Rattle.model.specs.Region.{drained_from, drained}
 use Rattle.model.proofs.Lists.{map-append, concat-append}
+use Rattle.solution.specs.declared.plan.Plan as held
+use Rattle.solution.specs.Held.{routes}
 use Rattle.pasting.specs.Put.{put}
 use Rattle.pasting.proofs.Put.{put-put, length-put}
 use Rattle.rebuild_words.specs.Gaps.{no_region, Gapped}
@@ -100,11 +102,11 @@ all_none P gs old = record { number = refl; says = refl; holds = sym (take-appen
 pub all_listed : (P : Plan) (gs : List Region) (old f : List ℕ) (c w q : ℕ) → AllListed P (take q gs) old f c w → length gs ≤ q → AllListed P gs old f c w
 all_listed P gs old f c w q A h = let e : take q gs ≡ gs = take_all q gs h in rw e at A
 
-module _ (v n : ℕ) (xs : List ℕ) (regions : List Region) (G : Gapped v n xs regions) (few : length (drained (decode v xs) regions) ≤ 7)
-    (old : List ℕ) (long : length old ≡ 8) (q : ℕ) (f : List ℕ) (c w : ℕ) (A : AllListed (decode v xs) (take q regions) old f c w)
-    (h : q < length regions) (r : Route) (er : r ≡ route_of (decode v xs) (get_or regions q no_region).vehicle) where
+module _ (plan : held.Plan) (regions : List Region) (G : Gapped plan regions) (few : length (drained (routes plan) regions) ≤ 7)
+    (old : List ℕ) (long : length old ≡ 8) (q : ℕ) (f : List ℕ) (c w : ℕ) (A : AllListed (routes plan) (take q regions) old f c w)
+    (h : q < length regions) (r : Route) (er : r ≡ route_of (routes plan) (get_or regions q no_region).vehicle) where
   abbrev P : Plan
-  P = decode v xs
+  P = routes plan
 
   abbrev gs : List Region
   gs = regions

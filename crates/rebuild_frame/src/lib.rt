@@ -4,16 +4,17 @@
 
 ghost use Rattle.std.specs.Prelude.{◌≡◌, ◌+◌, ◌≤◌, ◌<◌, length, take};
 ghost use Rattle.model.specs.Lists.{lower};
-ghost use Rattle.model.specs.Plan.{decode};
 ghost use Rattle.model.specs.Region.{drained};
+ghost use Rattle.solution.specs.Held.{routes, Becomes};
 ghost use Rattle.rebuild_words.specs.Gaps.{Gapped};
 ghost use Rattle.rebuild_fillings.specs.Walk.{own};
-ghost use Rattle.rebuild_fillings.specs.Rows.{word_of, digits_of, placements};
-ghost use Rattle.rebuild_tables.specs.Frame.{gap_count, placed_count, drained_count, route_count, stop_total, stops_in, form_of, Framed, Placeable, Framing};
+ghost use Rattle.rebuild_fillings.specs.Rows.{word_of, filling_of, digits_of, placements};
+ghost use Rattle.rebuild_tables.specs.Frame.{gap_count, placed_count, drained_count, stops_in, plan_by, form_of, Framed, Placeable, Framing};
 ghost use Rattle.rebuild_frame.specs.Listing.{Listable, GapListed, AllListed, StopsSmall};
 
 use model::Region;
 use rebuild_tables::Frame;
+use solution::Plan;
 
 // How many gaps there are.
 pub fn gaps(frame: &Frame) -> usize
@@ -55,37 +56,48 @@ fn codes_of(frame: &Frame, word: u64, codes: &mut [u32; 7]) -> usize
     m
 }
 
-// Writes the plan of a word.
-pub fn plan_of(frame: &Frame, word: u64, to: &mut [u32])
-    requires { Framed frame.now × Placeable frame.now word × (length to.old ≡ route_count frame.now + stop_total frame.now) }
-    ensures { to.new ≡ form_of frame.now word }
+// Writes the lent form of the plan of a word to the front of a plan's numbers.
+fn write_form(frame: &Frame, word: u64, numbers: &mut [u32; 80])
+    requires { Framed frame.now × Placeable frame.now word }
+    ensures { take (frame.now.plan.v + frame.now.plan.n) numbers.new ≡ form_of frame.now word }
 {
     let mut codes = [0u32; 7];
     let m = codes_of(frame, word, &mut codes);
     let p = gaps(frame);
-    let v = frame.routes;
-    let n = frame.stops;
-    let end = v + n;
+    let end = frame.plan.v + frame.plan.n;
     rebuild_words::compose(
-        &frame.plan[..end],
-        v,
-        n,
+        &frame.plan,
         &frame.regions[..p],
         &codes[..m],
-        to,
+        &mut numbers[..end],
     );
 }
 
-// Whether the plan of a word is lower than that of another: the first number that differs in their lent forms is.
+// The plan of a word.
+pub fn plan_of(frame: &Frame, word: u64) -> Plan
+    requires { Framed frame.now × Placeable frame.now word }
+    ensures { Becomes frame.now.plan result (plan_by frame.now (filling_of word)) }
+{
+    let mut numbers = [0u32; 80];
+    write_form(frame, word, &mut numbers);
+    Plan {
+        v: frame.plan.v,
+        n: frame.plan.n,
+        numbers,
+    }
+}
+
+// Whether the plan of a word is lower than that of another: the first number that differs in their lent forms is. Only the numbers are
+// written, as this is asked for each arrangement that costs what the best one does.
 pub fn is_lower(frame: &Frame, word: u64, other: u64) -> bool
     requires { Framed frame.now × Placeable frame.now word × Placeable frame.now other }
     ensures { result ≡ lower (form_of frame.now word) (form_of frame.now other) }
 {
-    let m = frame.routes + frame.stops;
+    let m = frame.plan.v + frame.plan.n;
     let mut x = [0u32; 80];
     let mut y = [0u32; 80];
-    plan_of(frame, word, &mut x[..m]);
-    plan_of(frame, other, &mut y[..m]);
+    write_form(frame, word, &mut x);
+    write_form(frame, other, &mut y);
     solution::lower(&x[..m], &y[..m])
 }
 
@@ -112,15 +124,15 @@ fn list_gap(stops: &mut [u32; 8], q: usize, part: &[u32], before: Listed) -> Lis
 }
 
 // Lists the stops of all gaps.
-fn list_stops(stops: &mut [u32; 8], plan: &[u32], v: usize, n: usize, regions: &[Region]) -> Listed
-    requires { Gapped v n plan.now regions.now × (length (drained (decode v plan.now) regions.now) ≤ 7) × (length stops.old ≡ 8) }
-    ensures { AllListed (decode v plan.now) regions.now stops.old stops.new result.count result.word }
+fn list_stops(stops: &mut [u32; 8], plan: &Plan, regions: &[Region]) -> Listed
+    requires { Gapped plan.now regions.now × (length (drained (routes plan.now) regions.now) ≤ 7) × (length stops.old ≡ 8) }
+    ensures { AllListed (routes plan.now) regions.now stops.old stops.new result.count result.word }
 {
     let mut listed = Listed { count: 0, word: 0 };
     for (q, region) in regions.iter().enumerate() {
         let from = region.from;
         let to = region.to;
-        let route = solution::route(plan, v, n, region.vehicle);
+        let route = plan.route(region.vehicle);
         listed = list_gap(stops, q, &route[from..to], listed);
     }
     listed
@@ -134,10 +146,10 @@ pub struct Beginning {
 }
 
 // The frame of a plan and its regions.
-pub fn fill(plan: &[u32], v: usize, n: usize, regions: &[Region]) -> Beginning
-    requires { Gapped v n plan.now regions.now × (0 < length regions.now) × (length (drained (decode v plan.now) regions.now) ≤ 7) }
-    ensures framing { Framing plan.now v n regions.now result.frame }
-    ensures value { result.own ≡ word_of (own (decode v plan.now) regions.now) }
+pub fn fill(plan: &Plan, regions: &[Region]) -> Beginning
+    requires { Gapped plan.now regions.now × (0 < length regions.now) × (length (drained (routes plan.now) regions.now) ≤ 7) }
+    ensures framing { Framing plan.now regions.now result.frame }
+    ensures value { result.own ≡ word_of (own (routes plan.now) regions.now) }
     ensures stops_small { StopsSmall result.frame }
 {
     let mut spans = [Region {
@@ -147,20 +159,15 @@ pub fn fill(plan: &[u32], v: usize, n: usize, regions: &[Region]) -> Beginning
     }; 3];
     let p = regions.len();
     spans[..p].copy_from_slice(regions);
-    let mut lent = [0u32; 80];
-    let m = plan.len();
-    lent[..m].copy_from_slice(plan);
     let mut stops = [0u32; 8];
-    let listed = list_stops(&mut stops, plan, v, n, regions);
+    let listed = list_stops(&mut stops, plan, regions);
     let frame = Frame {
         gaps: regions.len(),
-        routes: v,
-        stops: n,
-        placed: stop_set::size(solution::placed_set(plan, v, n)),
+        placed: stop_set::size(plan.placed_set()),
         drained: listed.count as u32,
         regions: spans,
         listed: stops,
-        plan: lent,
+        plan: *plan,
     };
     Beginning {
         frame,

@@ -2,16 +2,17 @@
 use Prim.Native.Nat.{ℕ, ◌<◌, ◌≤◌}
 use Rattle.std.specs.Prelude.{Some}
 use native.Mathlib.Omega.{arith}
-use mathlib.Core.Path.{◌≡◌, refl, sym, ap, ◌∙◌}
+use mathlib.Core.Path.{◌≡◌, refl, ap}
 use mathlib.Core.Bool.{Bool, true, false, cond}
-use mathlib.Core.List.{List}
-use lib.ListN.{length, get_or}
+use lib.ListN.{length}
 use Rattle.model.specs.Lists.{position}
-use Rattle.model.specs.Plan.{Plan, route_of, vehicle_of, is_placed, decode, Lent}
+use Rattle.model.specs.Plan.{Plan, route_of, vehicle_of, is_placed}
 use Rattle.model.specs.Region.{region_from, region_to}
 use Rattle.model.proofs.Locate.{vehicle-lt, vehicle-position}
 use Rattle.model.proofs.PlanForm.{lent_length, route-length, route-end}
 use Rattle.solution.specs.declared.Place.{Place}
+use Rattle.solution.specs.declared.plan.Plan as held
+use Rattle.solution.specs.Held.{routes}
 use Rattle.std.specs.Prelude.{Option, Some, None}
 use Rattle.solution.specs.Places.{place_of}
 use Rattle.rebuild_regions.specs.Around.{vehicle_found, region_found}
@@ -60,30 +61,24 @@ module _ (s : ℕ) (P : Plan) (f : Option ℕ) (e : f ≡ vehicle_found P s) whe
       go true on h = let z : ◌≡◌ {A = ℕ} 0 1 = cc in absurd (omega arith)
       go false off h = off
 
--- within the plan that is lent
-pub record Within (v n : ℕ) (xs : List ℕ) (s : ℕ) (p : Place) : Type 0 where
-  pub vehicle : p.vehicle < v
-  pub position : p.position ≤ n
-  pub long : get_or xs p.vehicle 0 ≡ length (route_of (decode v xs) (vehicle_of s (decode v xs)))
-  pub few : get_or xs p.vehicle 0 ≤ n
+-- within a plan
+pub record Within (p : held.Plan) (x : Place) : Type 0 where
+  pub vehicle : x.vehicle < p.v
+  pub position : x.position ≤ p.n
 
-pub there-within : (v n : ℕ) (xs : List ℕ) → Lent v n xs → (s : ℕ) (p : Place) → There s (decode v xs) p → Within v n xs s p
-there-within v n xs l s p t =
-    let k : vehicle_of s (decode v xs) < v = omega (arith, vehicle-lt s (decode v xs) t.placed, lent_length v n xs l) in
-    let h : p.vehicle < v = omega (arith, t.vehicle) in
-    let e : get_or xs p.vehicle 0 ≡ length (route_of (decode v xs) (vehicle_of s (decode v xs))) =
-    ap (λ (j : ℕ). get_or xs j 0) t.vehicle ∙ sym (route-length v n xs l.long l.fits (vehicle_of s (decode v xs)) k)
-    in
-    let few : get_or xs p.vehicle 0 ≤ n = omega (arith, route-end v n xs l.long l.fits p.vehicle h) in
-    record {
-      vehicle = h;
-      position = omega (arith, t.position, vehicle-position s (decode v xs) t.placed);
-      long = e;
-      few = few;
-    }
+pub there-within : (p : held.Plan) (s : ℕ) (x : Place) → There s (routes p) x → Within p x
+there-within p s x t =
+    let many : length (routes p) ≡ p.v = lent_length p.v p.n _ p.lent in
+    let h : x.vehicle < p.v = omega (arith, t.vehicle, vehicle-lt s (routes p) t.placed, many) in
+    let few : length (route_of (routes p) x.vehicle) ≤ p.n = omega (
+      arith,
+      route-length p.v p.n _ p.lent.long p.lent.fits x.vehicle h,
+      route-end p.v p.n _ p.lent.long p.lent.fits x.vehicle h,
+    ) in
+    record { vehicle = h; position = omega (arith, few, t.position, t.vehicle, ap (λ k. length (route_of (routes p) k)) t.vehicle, vehicle-position s (routes p) t.placed) }
 
 -- the region around a placed stop
-pub region-there : (v n : ℕ) (xs : List ℕ) (s : ℕ) (p : Place) → There s (decode v xs) p → Within v n xs s p → (size from to : ℕ)
-    → from ≡ region_from size p.position → to ≡ region_to size p.position (get_or xs p.vehicle 0)
-    → Some (record { vehicle = p.vehicle; from = from; to = to }) ≡ region_found (decode v xs) size s
-region-there v n xs s p t w size from to a b = rw (t.placed, a, b, w.long, t.vehicle, t.position)
+pub region-there : (P : Plan) (s : ℕ) (p : Place) → There s P p → (size from to : ℕ)
+    → from ≡ region_from size p.position → to ≡ region_to size p.position (length (route_of P p.vehicle))
+    → Some (record { vehicle = p.vehicle; from = from; to = to }) ≡ region_found P size s
+region-there P s p t size from to a b = rw (t.placed, a, b, t.vehicle, t.position)

@@ -2,32 +2,32 @@
 #![tactic(auto)]
 
 ghost use Rattle.std.specs.Prelude.{◌≡◌, [], ◌≤◌, length, take, drop};
-ghost use Rattle.model.specs.Plan.{decode, Lent, Sizes};
 ghost use Rattle.model.specs.Region.{keep_picks, region_from, region_to, regions};
+ghost use Rattle.solution.specs.Held.{routes};
 ghost use Rattle.rebuild_regions.specs.Around.{vehicle_found, region_found};
 
 use model::Region;
+use solution::Plan;
 
 // The vehicle that a stop is on, if it is on one.
-fn vehicle_of(plan: &[u32], v: usize, n: usize, stop: u32) -> Option<usize>
-    requires { Sizes v n × Lent v n plan.now }
-    ensures { result ≡ vehicle_found (decode v plan.now) stop }
+fn vehicle_of(plan: &Plan, stop: u32) -> Option<usize>
+    ensures { result ≡ vehicle_found (routes plan.now) stop }
 {
-    solution::find(plan, v, n, stop).map(|place| place.vehicle)
+    plan.find(stop).map(|place| place.vehicle)
 }
 
 // Writes the picks that are placed, of those on one vehicle the first, and returns how many.
 // The vehicles of the picks that were kept are a set, as stops are.
 // A list that is lent and a number, not a Vec: nothing here is taken from the heap.
-fn keep_picks(plan: &[u32], v: usize, n: usize, picks: &[u32], kept: &mut [u32]) -> usize
-    requires { Sizes v n × Lent v n plan.now × length picks.now ≤ length kept.old }
-    ensures kept_after { take result kept.new ≡ keep_picks (decode v plan.now) [] picks.now }
+fn keep_picks(plan: &Plan, picks: &[u32], kept: &mut [u32]) -> usize
+    requires { length picks.now ≤ length kept.old }
+    ensures kept_after { take result kept.new ≡ keep_picks (routes plan.now) [] picks.now }
     ensures upper_bound { result ≤ length picks.now }
 {
     let mut named: u64 = 0;
     let mut p = 0;
     for &pick in picks {
-        if let Some(k) = vehicle_of(plan, v, n, pick) {
+        if let Some(k) = vehicle_of(plan, pick) {
             let vehicle = k as u32;
             if !stop_set::contains(named, vehicle) {
                 named = stop_set::with(named, vehicle);
@@ -56,37 +56,36 @@ fn region_to(size: usize, at: usize, length: usize) -> usize
 }
 
 // The region around a pick that is placed.
-fn region_of(plan: &[u32], v: usize, n: usize, pick: u32, size: usize) -> Option<Region>
-    requires { Sizes v n × Lent v n plan.now × (size ≤ 8) }
-    ensures { result ≡ region_found (decode v plan.now) size pick }
+fn region_of(plan: &Plan, pick: u32, size: usize) -> Option<Region>
+    requires { size ≤ 8 }
+    ensures { result ≡ region_found (routes plan.now) size pick }
 {
-    let place = solution::find(plan, v, n, pick)?;
+    let place = plan.find(pick)?;
     let vehicle = place.vehicle;
     let at = place.position;
     Some(Region {
         vehicle,
         from: region_from(size, at),
-        to: region_to(size, at, plan[vehicle] as usize),
+        to: region_to(size, at, plan.route(vehicle).len()),
     })
 }
 
 // Writes the regions around one or two picks and returns how many there are: with p of k picks kept, (8 − k) / p stops each. What the list
 // holds after them stays: it is lent with a number beside, as nothing is on a heap.
-pub fn regions_of(plan: &[u32], v: usize, n: usize, picks: &[u32], out: &mut [Region]) -> usize
-    requires sizes { Sizes v n × Lent v n plan.now }
-    requires picks_len_bound { (length picks.now ≤ 2) × (2 ≤ length out.old) }
-    ensures out_after { take result out.new ≡ regions (decode v plan.now) picks.now }
+pub fn regions_of(plan: &Plan, picks: &[u32], out: &mut [Region]) -> usize
+    requires { (length picks.now ≤ 2) × (2 ≤ length out.old) }
+    ensures out_after { take result out.new ≡ regions (routes plan.now) picks.now }
     ensures out_unchanged { drop result out.new ≡ drop result out.old }
     ensures upper_bound { result ≤ length picks.now }
 {
     let mut kept = [0u32; 2];
-    let p = keep_picks(plan, v, n, picks, &mut kept);
+    let p = keep_picks(plan, picks, &mut kept);
     if p == 0 {
         return 0;
     }
     let size = (8 - picks.len()) / p;
     for i in 0..p {
-        if let Some(region) = region_of(plan, v, n, kept[i], size) {
+        if let Some(region) = region_of(plan, kept[i], size) {
             out[i] = region;
         }
     }

@@ -1,7 +1,10 @@
 -- What is known of all gaps of a plan in advance.
 use Rattle.std.specs.Prelude.{◌≡◌, ℕ, ◌<◌, List, length, get_or, drop}
-use Rattle.model.specs.Plan.{route_of, decode}
+use Rattle.model.specs.Plan.{route_of}
 use Rattle.model.specs.declared.Region.{Region}
+use Rattle.distance.specs.declared.legs.Legs.{Legs}
+use Rattle.solution.specs.declared.plan.Plan.{Plan}
+use Rattle.solution.specs.Held.{routes}
 use Rattle.rebuild_words.specs.Gaps.{no_region}
 use Rattle.rebuild_survey.specs.declared.Gap.{Gap}
 use Rattle.rebuild_survey.specs.Ways.{Measured}
@@ -24,13 +27,13 @@ abbrev pub rest_of : List Gap → ℕ → ℕ
 rest_of gaps q = (gap_at gaps q).rest
 
 -- what is known of gap q is right
-abbrev pub Surveyed-at : List ℕ → ℕ → List ℕ → List Region → List Gap → ℕ → Type 0
-Surveyed-at t v xs regions gaps q =
-    let g = get_or regions q no_region in Measured t g.vehicle (route_of (decode v xs) g.vehicle) g.from g.to (gap_at gaps q)
+abbrev pub Surveyed-at : Legs → Plan → List Region → List Gap → ℕ → Type 0
+Surveyed-at t p regions gaps q =
+    let g = get_or regions q no_region in Measured t.table g.vehicle (route_of (routes p) g.vehicle) g.from g.to (gap_at gaps q)
 
 -- and of all gaps
-abbrev pub Surveyed : List ℕ → ℕ → List ℕ → List Region → List Gap → Type 0
-Surveyed t v xs regions gaps = (q : ℕ) → q < length regions → Surveyed-at t v xs regions gaps q
+abbrev pub Surveyed : Legs → Plan → List Region → List Gap → Type 0
+Surveyed t p regions gaps = (q : ℕ) → q < length regions → Surveyed-at t p regions gaps q
 
 -- what stands after all gaps stays
 abbrev pub Unsurveyed : List Region → List Gap → List Gap → Type 0

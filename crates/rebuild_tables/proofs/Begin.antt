@@ -88,7 +88,7 @@ module _ (ways : Ways) (f : Frame) (kept : Kept) (others best : Float) (W : Visi
       ∙ fillings_from-none p (up_from 1 m)
 
   once : Once (drained P gs)
-  once = once-drained P gs W.tabled.framed.gapped.stretches W.tabled.framed.gapped.plan.once
+  once = once-drained P gs W.tabled.framed.gapped.stretches f.plan.lent.once
 
   -- the plans met are the arrangements, in the order of the definition
   pub plans-all : plans_met f 0 left 8 ≡ arrangements P gs

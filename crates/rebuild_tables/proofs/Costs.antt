@@ -11,10 +11,10 @@ use Rattle.model.specs.declared.Region.{Region}
 use Rattle.model.specs.Whole.{exact}
 use Rattle.model.specs.Job.{Job}
 use Rattle.model.specs.Lists.{concat, count, up_from}
-use Rattle.model.specs.Plan.{Plan, Route, route_of, placed, decode}
+use Rattle.model.specs.Plan.{Plan, Route, route_of, placed}
 use Rattle.model.specs.Region.{Stretches}
 use Rattle.model.specs.Rebuild.{replaced}
-use Rattle.model.specs.Legs.{leg_at, depot, Fits}
+use Rattle.model.specs.Legs.{leg_at, depot}
 use Rattle.model.specs.Cost.{price, missed_cost, cost}
 use Rattle.model.proofs.Lists.{one_same}
 use Rattle.model.proofs.Counts.{count-route, length-le}
@@ -29,6 +29,10 @@ use Rattle.rebuild_survey.specs.declared.Gap.{Gap}
 use Rattle.rebuild_survey.specs.Ways.{Measured}
 use Rattle.rebuild_survey.specs.Surveys.{before_of, after_of, gap_at}
 use Rattle.rebuild_survey.proofs.Ways.{way-on}
+use Rattle.distance.specs.declared.tariff.Tariff.{Tariff}
+use Rattle.solution.specs.declared.plan.Plan as held
+use Rattle.solution.specs.Held.{routes}
+use Rattle.delivery.specs.Held.{IsJobOf}
 use Rattle.delivery.specs.Costs.{table_price, table_driving, table_cost}
 use Rattle.delivery.proofs.Driving.{table-change}
 use Rattle.delivery.proofs.Laws.{cost-small, table-cost}
@@ -104,19 +108,28 @@ module _ (t : List ℕ) (ways : Ways) (P : Plan) (f : ℕ → ℕ) where
 abbrev pub PlacesTo : ℕ → List ℕ → Type 0
 PlacesTo m x = (i : ℕ) → 1 ≤ count i x → (1 ≤ i) × (i ≤ m)
 
-module _ (t : List ℕ) (v n : ℕ) (p : Prices) (xs : List ℕ) (regions : List Region) (gaps : List Gap) (starts ends : List ℕ) (base : Float) (ways : Ways)
-    (G : Grounded t v n p xs regions gaps starts ends base ways) where
+module _ (tariff : Tariff) (plan : held.Plan) (regions : List Region) (gaps : List Gap) (starts ends : List ℕ) (base : Float) (ways : Ways)
+    (G : Grounded tariff plan regions gaps starts ends base ways) where
+  abbrev t : List ℕ
+  t = tariff.legs.table
+
+  abbrev p : Prices
+  p = tariff.prices
+
+  abbrev n : ℕ
+  n = plan.n
+
   abbrev P : Plan
-  P = decode v xs
+  P = routes plan
 
   abbrev gs : List Region
   gs = regions
 
   abbrev stops : List ℕ
-  stops = stops_from v xs regions
+  stops = stops_from plan regions
 
   abbrev m : ℕ
-  m = length (stops_from v xs regions)
+  m = length (stops_from plan regions)
 
   -- ---- ways
 
@@ -188,10 +201,10 @@ module _ (t : List ℕ) (v n : ℕ) (p : Prices) (xs : List ℕ) (regions : List
     plan-left = plan-placed P gs fill m F refl G.gapped.stretches
 
     known-few : placed P ≤ n
-    known-few = lent_placed v n xs G.gapped.plan
+    known-few = lent_placed plan.v n _ plan.lent
 
-    wide : length X ≡ v
-    wide = plan-wide P gs fill ∙ lent_length v n xs G.gapped.plan
+    wide : length X ≡ plan.v
+    wide = plan-wide P gs fill ∙ lent_length plan.v n _ plan.lent
 
     -- those missed by the filling come to those missed before
     missed-both : missed_cost p (n - placed X) ≡ missed_cost p (n - placed P) + missed_cost (prices_at ways) missing
@@ -212,17 +225,17 @@ module _ (t : List ℕ) (v n : ℕ) (p : Prices) (xs : List ℕ) (regions : List
     short-by q h =
         let k : ℕ = vehicle_at gs no_region q in
         let few = length-le (route_of X k) (concat X) (λ s. count-route s X k) in
-        omega (arith, route-by q h, way-small t G.legs (depot k) (route_of X k) (depot k), few, plan-left, known-few, G.gapped.sizes.stops)
+        omega (arith, route-by q h, way-small t tariff.legs.lengths (depot k) (route_of X k) (depot k), few, plan-left, known-few, plan.sizes.stops)
 
     -- and every cost is exact in f64
     pub small_by : cost_by ways m fill ≤ exact
     small_by =
-        let few : placed X + length X ≤ 80 = omega (arith, plan-left, known-few, wide, G.gapped.sizes.vehicles, G.gapped.sizes.stops) in
-        omega (arith, cost-by, cost-small t p G.legs G.prices n X G.gapped.sizes.stops few)
+        let few : placed X + length X ≤ 80 = omega (arith, plan-left, known-few, wide, plan.sizes.vehicles, plan.sizes.stops) in
+        omega (arith, cost-by, cost-small t p tariff.legs.lengths tariff.affordable n X plan.sizes.stops few)
 
     -- ---- every job that fits
 
-    pub job-by : (J : Job) → Fits J t v n p → cost J X ≡ cost_by ways m fill
+    pub job-by : (J : Job) → IsJobOf J tariff plan → cost J X ≡ cost_by ways m fill
     job-by J fits =
-        let below = plan-below P gs fill m F refl G.gapped.stretches n G.gapped.plan.below in
-        sym (cost-by ∙ table-cost J t v n p fits X (omega (arith, wide)) below (λ s h. omega (arith, below s h, G.gapped.sizes.stops)))
+        let below = plan-below P gs fill m F refl G.gapped.stretches n plan.lent.below in
+        sym (cost-by ∙ table-cost J t plan.v n p fits X (omega (arith, wide)) below (λ s h. omega (arith, below s h, plan.sizes.stops)))

@@ -1,8 +1,10 @@
 -- A frame: the gaps, the plan and the drained stops of a walk, and the plan that a word stands for in it.
-use Rattle.std.specs.Prelude.{◌≡◌, ℕ, ◌+◌, ◌≤◌, ◌<◌, List, length, take, drop}
-use Rattle.model.specs.Plan.{Plan, decode, encode, placed}
+use Rattle.std.specs.Prelude.{◌≡◌, ℕ, ◌≤◌, ◌<◌, List, length, take, drop}
+use Rattle.model.specs.Plan.{Plan, encode, placed}
 use Rattle.model.specs.declared.Region.{Region}
 use Rattle.model.specs.Region.{drained}
+use Rattle.solution.specs.declared.plan.Plan as held
+use Rattle.solution.specs.Held.{routes}
 use Rattle.rebuild_words.specs.Gaps.{Gapped}
 use Rattle.rebuild_fillings.specs.Walk.{Filling, plan_at}
 use Rattle.rebuild_fillings.specs.Rows.{filling_of, Worded}
@@ -12,13 +14,9 @@ use Rattle.rebuild_tables.specs.declared.Frame.{Frame}
 abbrev pub gap_count : Frame → ℕ
 gap_count f = f.gaps
 
--- the routes of the plan
-abbrev pub route_count : Frame → ℕ
-route_count f = f.routes
-
 -- the stops of the job
 abbrev pub stop_total : Frame → ℕ
-stop_total f = f.stops
+stop_total f = f.plan.n
 
 -- those that are on a route of the plan
 abbrev pub placed_count : Frame → ℕ
@@ -36,12 +34,9 @@ framed_regions f = take (gap_count f) f.regions
 abbrev pub stops_in : Frame → List ℕ
 stops_in f = take (drained_count f) (drop 1 f.listed)
 
--- the plan in its lent form
-abbrev pub plan_in : Frame → List ℕ
-plan_in f = take (route_count f + stop_total f) f.plan
-
+-- the plan
 abbrev pub framed_plan : Frame → Plan
-framed_plan f = decode (route_count f) (plan_in f)
+framed_plan f = routes f.plan
 
 -- the plan of a filling by places
 abbrev pub plan_by : Frame → Filling → Plan
@@ -55,10 +50,9 @@ form_of f w = encode (stop_total f) (plan_by f (filling_of w))
 pub record Framed (f : Frame) : Type 0 where
   pub spans : length f.regions ≡ 3
   pub places : length f.listed ≡ 8
-  pub long : length f.plan ≡ 80
   pub some : 0 < gap_count f
   pub gaps : gap_count f ≡ length (framed_regions f)
-  pub gapped : Gapped (route_count f) (stop_total f) (plan_in f) (framed_regions f)
+  pub gapped : Gapped f.plan (framed_regions f)
   pub few : drained_count f ≤ 7
   pub stops : stops_in f ≡ drained (framed_plan f) (framed_regions f)
   pub placed : placed_count f ≡ placed (framed_plan f)
@@ -67,10 +61,8 @@ pub record Framed (f : Frame) : Type 0 where
 abbrev pub Placeable : Frame → ℕ → Type 0
 Placeable f w = Worded (gap_count f) (drained_count f) w
 
--- f is the frame of a lent plan and its regions
-pub record Framing (plan : List ℕ) (v n : ℕ) (regions : List Region) (f : Frame) : Type 0 where
+-- f is the frame of a plan and its regions
+pub record Framing (plan : held.Plan) (regions : List Region) (f : Frame) : Type 0 where
   pub framed : Framed f
-  pub routes : route_count f ≡ v
-  pub total : stop_total f ≡ n
-  pub same : plan_in f ≡ plan
+  pub same : f.plan ≡ plan
   pub spans : framed_regions f ≡ regions

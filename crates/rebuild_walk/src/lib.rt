@@ -22,12 +22,15 @@ fn wins_tie(frame: &Frame, kept: &Kept, placed: u64, word: u64) -> bool
     kept.most < placed || placed == kept.most && rebuild_frame::is_lower(frame, word, kept.best)
 }
 
-// Whether the arrangement of a word takes the best one's place. Nearly all cost more.
+// Whether the arrangement of a word takes the best one's place. Nearly all cost more, so that is asked first.
 fn is_better(frame: &Frame, kept: &Kept, placed: u64, word: u64, cost: f64, best: f64) -> bool
     requires { Comparable frame.now kept.now word cost best }
     ensures { result ≡ wins frame.now kept.now placed word cost best }
 {
-    whole::cheaper(cost, best) || whole::same(cost, best) && wins_tie(frame, kept, placed, word)
+    if whole::cheaper(best, cost) {
+        return false;
+    }
+    whole::cheaper(cost, best) || wins_tie(frame, kept, placed, word)
 }
 
 // A trail with one word more. What was noted before is not lost, as 3 is odd.

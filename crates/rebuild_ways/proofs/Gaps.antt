@@ -6,6 +6,7 @@ use Rattle.model.specs.declared.Prices.{Prices}
 use Rattle.model.specs.Whole.{exact, whole, amount, IsWhole}
 use Rattle.model.specs.Legs.{Affordable}
 use Rattle.model.specs.Cost.{price}
+use Rattle.distance.specs.declared.tariff.Tariff.{Tariff}
 use Rattle.whole.proofs.Laws.{amount-is}
 use Rattle.distance.proofs.Laws.{leg-small}
 use Rattle.delivery.proofs.Laws.{price-small}
@@ -92,20 +93,20 @@ prices-kept p A x e =
     in
     r
 
-module _ (t : List ℕ) (prices : Prices) (starts ends : List ℕ) (gaps : List Gap) (p : ℕ) (base : Float) (F : Fillable t prices starts ends gaps p base)
-    (w : Ways) (R : RowsFilled t starts ends 11 w.legs) (ep : prices_at w ≡ prices) where
+module _ (t : Tariff) (starts ends : List ℕ) (gaps : List Gap) (p : ℕ) (base : Float) (F : Fillable starts ends gaps p base)
+    (w : Ways) (R : RowsFilled t.legs.table starts ends 11 w.legs) (ep : prices_at w ≡ t.prices) where
   pub gaps-fillable : GapsFillable gaps p w
   gaps-fillable =
       record {
-        affordable = subst Affordable (sym ep) F.affordable;
+        affordable = subst Affordable (sym ep) t.affordable;
         few = F.few;
         short = F.short;
         leg = λ q h.
             let e = R.rows (8 + q) (8 + q) (omega (arith, F.few)) (omega (arith, F.few)) in
-            omega (arith, leg-small t (get_or starts (8 + q) 0) (get_or ends (8 + q) 0) F.legs);
+            omega (arith, leg-small t.legs.table (get_or starts (8 + q) 0) (get_or ends (8 + q) 0) t.legs.lengths);
       }
 
-  pub filled : base_at w ≡ amount base → (after : Ways) → GapsFilled gaps p w after → Filled t prices starts ends gaps p base after
+  pub filled : base_at w ≡ amount base → (after : Ways) → GapsFilled gaps p w after → Filled t starts ends gaps p base after
   filled eb after G =
       let legs : (r c : ℕ) → way_at after r c ≡ way_at w r c = λ r c. ap (λ (l : List Float). cell_at l (16 * r + c)) G.legs in
       record {

@@ -3,11 +3,11 @@
 
 ghost use Rattle.std.specs.Prelude.{◌≡◌, ◌+◌, ◌*◌, ◌≤◌, ◌<◌};
 ghost use Rattle.model.specs.Whole.{exact, whole, amount, IsWhole};
-ghost use Rattle.model.specs.Legs.{LegTable, Affordable};
+ghost use Rattle.model.specs.Legs.{Affordable};
 ghost use Rattle.model.specs.Cost.{price};
 ghost use Rattle.rebuild_ways.specs.Exact.{IsExact, Wholly};
 
-use model::Prices;
+use distance::Tariff;
 use rebuild_survey::Gap;
 use rows::fill_rows;
 
@@ -113,28 +113,27 @@ impl Ways {
 
     // A table filled with the legs from each start to each end, what is known of p gaps, the prices, and what all else costs.
     pub fn filled(
-        legs: &[u32],
-        prices: Prices,
+        tariff: &Tariff,
         starts: &[u32; 16],
         ends: &[u32; 16],
         gaps: &[Gap; 3],
         p: usize,
         base: f64,
     ) -> Ways
-        requires { Fillable legs.now prices starts.now ends.now gaps.now p base }
-        ensures { Filled legs.now prices starts.now ends.now gaps.now p base result }
+        requires { Fillable starts.now ends.now gaps.now p base }
+        ensures { Filled tariff.now starts.now ends.now gaps.now p base result }
     {
-        let missed = whole::of_u64(prices.missed);
+        let missed = whole::of_u64(tariff.prices.missed);
         let mut ways = Ways {
             legs: [0.0; 256],
             own: [0.0; 4],
             vacant: [0.0; 4],
-            linear: prices.linear as f64,
-            quadratic: prices.quadratic as f64,
+            linear: tariff.prices.linear as f64,
+            quadratic: tariff.prices.quadratic as f64,
             missed,
             base,
         };
-        fill_rows(legs, starts, ends, &mut ways.legs);
+        fill_rows(&tariff.legs, starts, ends, &mut ways.legs);
         ways.fill_gaps(gaps, p);
         ways
     }

@@ -8,10 +8,12 @@ use mathlib.Core.List.{List, [], ◌∷◌, ◌++◌, map, append_assoc, append-
 use lib.ListN.{length, get_or, take, drop, set, replicate, length-append, length-set, length-take, length-drop, take-append-drop}
 use lib.Seq.{take-suc, take_all, take-take, take-append-le, take-suc-set, take-set-lt, drop-append-le, drop-set-lt, drop-length, length-take-le}
 use Rattle.model.specs.Lists.{concat, sum, part}
-use Rattle.model.specs.Plan.{Plan, Route, route_of, placed, unused, encode, decode}
+use Rattle.model.specs.Plan.{Plan, Route, route_of, placed, unused, encode, Lent}
 use Rattle.model.proofs.Lists.{map-append, concat-append, sum_more}
 use Rattle.model.proofs.PlanForm.{route-part, route-end, lent_length}
 use Rattle.model.specs.declared.Region.{Region}
+use Rattle.solution.specs.declared.plan.Plan as held
+use Rattle.solution.specs.Held.{numbers_of, routes}
 use Rattle.pasting.specs.Put.{put}
 use Rattle.pasting.proofs.Put.{take_put, length-put, lent-rest}
 use Rattle.rebuild_words.specs.Words.{Word, in_gap, plan_of}
@@ -49,9 +51,6 @@ module _ (v n : ℕ) (X : Plan) where
           ap length (sym (concat-append (take i X) (drop i X)) ∙ ap concat (take-append-drop i X)),
           length-append (concat (take i X)) (concat (drop i X)),
         )
-
-    pub written-within : (i at : ℕ) (to : List ℕ) → Written v n X i at to → placed X ≤ n → at ≤ length to
-    written-within i at to w fits = omega (arith, w.place, w.long, few i)
 
     module _ (i at : ℕ) (to : List ℕ) (w : Written v n X i at to) (fits : placed X ≤ n) (h : i < v) where
       pub written-room : at + length (route_of X i) ≤ length to
@@ -116,28 +115,36 @@ module _ (v n : ℕ) (X : Plan) where
 
 -- ---- the plan of a word
 
-module _ (v n : ℕ) (xs : List ℕ) (regions : List Region) (d : Region) (w : Word) (G : Gapped v n xs regions) where
+-- xs is the lent form
+module _ (p : held.Plan) (xs : List ℕ) (form : xs ≡ numbers_of p) (regions : List Region) (d : Region) (w : Word) (G : Gapped p regions) where
   abbrev pub composed : Plan
-  composed = plan_of (decode v xs) regions w
+  composed = plan_of (routes p) regions w
 
-  pub composed-wide : length composed ≡ v
-  composed-wide = length-plan_of (decode v xs) regions d G.stretches w ∙ lent_length v n xs G.plan
+  pub composed-wide : length composed ≡ p.v
+  composed-wide = length-plan_of (routes p) regions d G.stretches w ∙ lent_length p.v p.n _ p.lent
+
+  lent : Lent p.v p.n xs
+  lent = rw form p.lent
 
   -- what a turn of the loop reads: the route of vehicle i, and what it becomes where it has a region and where it has none
   pub record Read (start i : ℕ) : Type 0 where
-    pub ending : start + get_or xs i 0 ≤ v + n
-    pub next : start + get_or xs i 0 ≡ v + sum (take (i + 1) xs)
+    pub ending : start + get_or xs i 0 ≤ length xs
+    pub below : start + get_or xs i 0 ≤ 80
+    pub next : start + get_or xs i 0 ≡ p.v + sum (take (i + 1) xs)
     pub within : (r : ℕ) → position (is_of i) regions ≡ Some r → (r < length regions) × Within (get_or regions r d) (part start (start + get_or xs i 0) xs)
     pub refills : (r : ℕ) → position (is_of i) regions ≡ Some r
         → refilled (get_or regions r d) (in_gap r w) (part start (start + get_or xs i 0) xs) ≡ route_of composed i
     pub stays : position (is_of i) regions ≡ None → part start (start + get_or xs i 0) xs ≡ route_of composed i
 
-  pub reads : (start i : ℕ) → start ≡ v + sum (take i xs) → i < v → Read start i
+  pub reads : (start i : ℕ) → start ≡ p.v + sum (take i xs) → i < p.v → Read start i
   reads start i es h =
-      let P = decode v xs in
-      let e : part start (start + get_or xs i 0) xs ≡ route_of P i = sym (route-part v xs (omega (arith, G.plan.long)) i start h es) in
+      let P = routes p in
+      let e : part start (start + get_or xs i 0) xs ≡ route_of P i =
+      sym (route-part p.v xs (omega (arith, lent.long)) i start h es) ∙ rw form refl
+      in
       record {
-        ending = omega (arith, route-end v n xs G.plan.long G.plan.fits i h);
+        ending = omega (arith, route-end p.v p.n xs lent.long lent.fits i h, lent.long);
+        below = omega (arith, route-end p.v p.n xs lent.long lent.fits i h, p.sizes.vehicles, p.sizes.stops);
         next = omega (arith, sum_more xs i, ap (λ k. sum (take k xs)) (add-one i));
         within = λ r f. (own-there P regions d G.stretches w i r f, rw e (own-within P regions d G.stretches w i r f));
         refills = λ r f. rw e (sym (route-refilled P regions d G.stretches w i r f));

@@ -1,16 +1,16 @@
 -- The regions of a rebuild, and the plan with something else in their place.
 use Rattle.std.specs.Prelude.{◌≡◌, ℕ, ◌+◌, ◌≤◌, List, ◌++◌, length, take, drop}
-use Rattle.model.specs.Plan.{Route, decode, Lent, Sizes}
+use Rattle.model.specs.Plan.{Route}
 use Rattle.model.specs.declared.Region.{Region}
 use Rattle.model.specs.Region.{Stretches}
 use Rattle.pasting.specs.Put.{put}
+use Rattle.solution.specs.declared.plan.Plan.{Plan}
+use Rattle.solution.specs.Held.{routes}
 
--- regions of a plan of v routes and n stops: at most three, stretches of different routes
-pub record Gapped (v n : ℕ) (xs : List ℕ) (regions : List Region) : Type 0 where
-  pub sizes : Sizes v n
-  pub plan : Lent v n xs
+-- regions of a plan: at most three, stretches of different routes
+pub record Gapped (p : Plan) (regions : List Region) : Type 0 where
   pub few : length regions ≤ 3
-  pub stretches : Stretches (decode v xs) regions
+  pub stretches : Stretches (routes p) regions
 
 -- what stands past the end of a list of regions
 abbrev pub no_region : Region

@@ -2,11 +2,13 @@
 #![tactic(auto)]
 
 ghost use Rattle.std.specs.Prelude.{◌≡◌, ◌==◌, ◌+◌, ◌≤◌, length, position};
-ghost use Rattle.model.specs.Plan.{encode, decode, placed};
+ghost use Rattle.model.specs.Plan.{encode, placed};
+ghost use Rattle.solution.specs.Held.{routes};
 ghost use Rattle.rebuild_words.specs.Words.{in_gap, plan_of};
 ghost use Rattle.rebuild_words.specs.Gaps.{Gapped, Within, refilled, Pasted};
 
 use model::Region;
+use solution::Plan;
 
 // The place of the region that a vehicle has.
 fn region_of(regions: &[Region], vehicle: usize) -> Option<usize>
@@ -50,17 +52,18 @@ fn paste_region(
     pasting::paste(to, b, &route[past..])
 }
 
-// Writes the plan that a word stands for: the given plan with what the word places in the regions in their place.
-pub fn compose(plan: &[u32], v: usize, n: usize, regions: &[Region], word: &[u32], to: &mut [u32])
-    requires gapped { Gapped v n plan.now regions.now }
-    requires to_len { (length to.old ≡ v + n) × (placed (plan_of (decode v plan.now) regions.now word.now) ≤ n) }
-    ensures { to.new ≡ encode n (plan_of (decode v plan.now) regions.now word.now) }
+// Writes the lent form of the plan that a word stands for: the given plan with what the word places in the regions in their place.
+pub fn compose(plan: &Plan, regions: &[Region], word: &[u32], to: &mut [u32])
+    requires gapped { Gapped plan.now regions.now }
+    requires to_len { (length to.old ≡ plan.now.v + plan.now.n) × (placed (plan_of (routes plan.now) regions.now word.now) ≤ plan.now.n) }
+    ensures { to.new ≡ encode plan.now.n (plan_of (routes plan.now) regions.now word.now) }
 {
-    let mut start = v;
-    let mut at = v;
-    for i in 0..v {
-        let end = start + plan[i] as usize;
-        let route = &plan[start..end];
+    let form = plan.form();
+    let mut start = plan.v;
+    let mut at = plan.v;
+    for i in 0..plan.v {
+        let end = start + form[i] as usize;
+        let route = &form[start..end];
         let next = match region_of(regions, i) {
             Some(r) => paste_region(to, at, route, regions[r], r as u32, word),
             None => pasting::paste(to, at, route),

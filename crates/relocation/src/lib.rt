@@ -5,41 +5,35 @@
 ghost use Rattle.std.specs.Prelude.{◌≡◌, ◌*◌, ◌^◌, ◌≤◌, ◌<◌};
 ghost use Rattle.std.proofs.Math.IntN.{sub_ℕ};
 ghost use Rattle.model.specs.Whole.{exact};
-ghost use Rattle.model.specs.Plan.{route_of, encode, decode};
-ghost use Rattle.model.specs.Vans.{move_to, moved};
-ghost use Rattle.delivery.specs.Costs.{table_price, Ready};
+ghost use Rattle.model.specs.Plan.{route_of};
+ghost use Rattle.model.specs.Vans.{moved};
+ghost use Rattle.solution.specs.Held.{routes, Becomes};
+ghost use Rattle.delivery.specs.Costs.{table_price};
 ghost use Rattle.relocation.specs.Moving.{pair_price, Movable, Changes};
 
-use model::Prices;
+use distance::Tariff;
+use model::Move;
+use solution::Plan;
 
 // What the route of vehicle k costs.
-fn route_cost(legs: &[u32], v: usize, n: usize, prices: Prices, plan: &[u32], k: usize) -> u64
-    requires { Ready legs.now v n prices plan.now × (k < v) }
-    ensures { (result ≡ table_price legs.now prices k (route_of (decode v plan.now) k)) × (result ≤ exact) }
+fn route_cost(tariff: &Tariff, plan: &Plan, k: usize) -> u64
+    requires { k < plan.now.v }
+    ensures { (result ≡ table_price tariff.now.legs.table tariff.now.prices k (route_of (routes plan.now) k)) × (result ≤ exact) }
 {
-    let route = solution::route(plan, v, n, k);
-    let length = distance::route_length(legs, k, route);
-    whole::to_whole(delivery::price(length, prices))
+    let length = tariff.legs.route_length(k, plan.route(k));
+    whole::to_whole(delivery::price(length, tariff.prices))
 }
 
 // What the routes of two vehicles cost, and one route where both are the same.
-fn both_cost(
-    legs: &[u32],
-    v: usize,
-    n: usize,
-    prices: Prices,
-    plan: &[u32],
-    a: usize,
-    b: usize,
-) -> u64
-    requires { Ready legs.now v n prices plan.now × (a < v) × (b < v) }
-    ensures { (result ≡ pair_price (table_price legs.now prices) (decode v plan.now) a b) × (result ≤ 2 * exact) }
+fn both_cost(tariff: &Tariff, plan: &Plan, a: usize, b: usize) -> u64
+    requires { (a < plan.now.v) × (b < plan.now.v) }
+    ensures { (result ≡ pair_price (table_price tariff.now.legs.table tariff.now.prices) (routes plan.now) a b) × (result ≤ 2 * exact) }
 {
-    let cost = route_cost(legs, v, n, prices, plan, a);
+    let cost = route_cost(tariff, plan, a);
     if a == b {
         return cost;
     }
-    cost + route_cost(legs, v, n, prices, plan, b)
+    cost + route_cost(tariff, plan, b)
 }
 
 // new − old, with its sign.
@@ -51,34 +45,27 @@ fn change(new: u64, old: u64) -> i64
 }
 
 // Moves a stop to a place of a van, and returns the change in cost.
-pub fn move_stop(
-    legs: &[u32],
-    v: usize,
-    n: usize,
-    prices: Prices,
-    plan: &mut [u32],
-    stop: u32,
-    van: usize,
-    place: usize,
-) -> i64
-    requires { Movable legs.now v n prices plan.old stop van place }
-    ensures plan_after { plan.new ≡ encode n (moved (move_to stop van place) (decode v plan.old)) }
-    ensures changes { Changes legs.now v n prices (decode v plan.old) stop van place result }
+pub fn move_stop(tariff: &Tariff, plan: &mut Plan, m: Move) -> i64
+    requires { Movable plan.old m }
+    ensures plan_after { Becomes plan.old plan.new (moved m (routes plan.old)) }
+    ensures changes { Changes tariff.now plan.old m result }
 {
-    match solution::find(plan, v, n, stop) {
+    let stop = m.stop;
+    let van = m.van as usize;
+    let place = m.place as usize;
+    match plan.find(stop) {
         Some(found) => {
-            let old = both_cost(legs, v, n, prices, plan, found.vehicle, van);
-            joining::take_out(plan, v, n, found.vehicle, found.position);
-            joining::put_in(plan, v, n, van, place, stop);
-            let new = both_cost(legs, v, n, prices, plan, found.vehicle, van);
+            let old = both_cost(tariff, plan, found.vehicle, van);
+            joining::remove(plan, stop, found);
+            joining::insert(plan, van, place, stop);
+            let new = both_cost(tariff, plan, found.vehicle, van);
             change(new, old)
         }
         None => {
-            let missed = prices.missed;
-            let old = route_cost(legs, v, n, prices, plan, van);
-            joining::put_in(plan, v, n, van, place, stop);
-            let new = route_cost(legs, v, n, prices, plan, van);
-            change(new, old + missed)
+            let old = route_cost(tariff, plan, van);
+            joining::insert(plan, van, place, stop);
+            let new = route_cost(tariff, plan, van);
+            change(new, old + tariff.prices.missed)
         }
     }
 }

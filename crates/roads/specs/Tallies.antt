@@ -3,11 +3,14 @@ use Rattle.std.specs.Prelude.{◌≡◌, ℕ, ◌+◌, ◌*◌, ◌/◌, ◌≤�
 use Rattle.model.specs.declared.Prices.{Prices}
 use Rattle.model.specs.declared.Road.{Road}
 use Rattle.model.specs.Lists.{count}
-use Rattle.model.specs.Job.{job_of}
-use Rattle.model.specs.Plan.{Route, Lent, decode}
+use Rattle.model.specs.Job.{job_of, priced}
+use Rattle.model.specs.Plan.{Route}
 use Rattle.model.specs.Cost.{legs}
 use Rattle.model.specs.Roads.{leg_uses, plan_uses, plan_length}
-use Rattle.distance.specs.Table.{Square, InLimits}
+use Rattle.model.specs.declared.job.Network.{Network}
+use Rattle.distance.specs.Table.{Square, Limited}
+use Rattle.solution.specs.declared.plan.Plan as held
+use Rattle.solution.specs.Held.{routes}
 use Rattle.roads.specs.declared.Tally.{Tally}
 
 -- a route of at most 64 stops between two locations: stops of the list, at locations of the table
@@ -25,17 +28,18 @@ pub record RouteTally (ss : List ℕ) (l : ℕ) (ds : List ℕ) (R : Road) (star
   pub uses : (vs : List ℕ) (p : Prices) → t.uses ≡ leg_uses (job_of vs ss l ds p) R start r end
   pub metres : (vs : List ℕ) (p : Prices) → t.metres ≡ legs (job_of vs ss l ds p) start r end
 
--- a plan over the lists of a job, all within the limits
-pub record Mapped (vs ss : List ℕ) (l : ℕ) (ds xs : List ℕ) : Type 0 where
-  pub limits : InLimits vs ss l ds
-  pub plan : Lent (length vs / 2) (length ss) xs
+-- a plan of a network's vehicles and stops, and a network within the limits
+pub record Mapped (N : Network) (p : held.Plan) : Type 0 where
+  pub limits : Limited N
+  pub vehicles : p.v ≡ length N.vehicles.now / 2
+  pub stops : p.n ≡ length N.stops.now
 
--- the uses and the metres of all its routes, for the job of these lists, whatever the prices; there are at most 80 legs
-pub record PlanTally (vs ss : List ℕ) (l : ℕ) (ds xs : List ℕ) (R : Road) (t : Tally) : Type 0 where
+-- the uses and the metres of all its routes, whatever the prices; there are at most 80 legs
+pub record PlanTally (N : Network) (p : held.Plan) (R : Road) (t : Tally) : Type 0 where
   pub few : t.uses ≤ 80
   pub short : t.metres ≤ 16000000
-  pub uses : (p : Prices) → t.uses ≡ plan_uses (job_of vs ss l ds p) R (decode (length vs / 2) xs)
-  pub metres : (p : Prices) → t.metres ≡ plan_length (job_of vs ss l ds p) (decode (length vs / 2) xs)
+  pub uses : (q : Prices) → t.uses ≡ plan_uses (priced N q) R (routes p)
+  pub metres : (q : Prices) → t.metres ≡ plan_length (priced N q) (routes p)
 
 -- the ceiling, from k, the uses S and the metres T
 abbrev pub ceiling_from : Prices → ℕ → ℕ → ℕ → ℕ

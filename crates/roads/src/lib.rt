@@ -2,14 +2,15 @@
 // comes the ceiling on what the longer road can cost.
 #![tactic(auto)]
 
-ghost use Rattle.std.specs.Prelude.{◌≡◌, ◌/◌, ◌≤◌, length};
-ghost use Rattle.model.specs.Job.{job_of};
-ghost use Rattle.model.specs.Plan.{decode};
+ghost use Rattle.std.specs.Prelude.{◌≡◌, ◌≤◌};
+ghost use Rattle.model.specs.Job.{of_lent};
 ghost use Rattle.model.specs.Legs.{Affordable};
 ghost use Rattle.model.specs.Roads.{one_use, ceiling};
+ghost use Rattle.solution.specs.Held.{routes};
 ghost use Rattle.roads.specs.Tallies.{Mapped, Walkable, RouteTally, PlanTally, ceiling_from};
 
-use model::{Prices, Road};
+use model::{Job, Network, Prices, Road};
+use solution::Plan;
 
 // How often a road is used, and the metres driven: on a route, or on all routes of a plan.
 #[derive(Clone, Copy)]
@@ -27,64 +28,37 @@ fn one_use(road: Road, from: u32, to: u32) -> u32
 
 // The tally of a route from one location through its stops to another. A leg is a use by its locations, so the walk reads the job's own
 // lists.
-fn route_tally(
-    stops: &[u32],
-    locations: u32,
-    distances: &[u32],
-    road: Road,
-    start: u32,
-    end: u32,
-    route: &[u32],
-) -> Tally
-    requires { Walkable stops.now locations distances.now start end route.now }
-    ensures { RouteTally stops.now locations distances.now road start end route.now result }
+fn route_tally(network: &Network, road: Road, start: u32, end: u32, route: &[u32]) -> Tally
+    requires { Walkable network.now.stops.now network.now.locations network.now.distances.now start end route.now }
+    ensures { RouteTally network.now.stops.now network.now.locations network.now.distances.now road start end route.now result }
 {
     let mut uses: u32 = 0;
     let mut metres: u32 = 0;
     let mut here = start;
     for &stop in route {
-        let next = stops[stop as usize];
+        let next = network.stops[stop as usize];
         uses += one_use(road, here, next);
-        metres += distance::lookup(locations, distances, here, next);
+        metres += distance::lookup(network, here, next);
         here = next;
     }
     uses += one_use(road, here, end);
-    metres += distance::lookup(locations, distances, here, end);
+    metres += distance::lookup(network, here, end);
     Tally { uses, metres }
 }
 
 // The tally of all routes of a plan.
-fn plan_tally(
-    vehicles: &[u32],
-    stops: &[u32],
-    locations: u32,
-    distances: &[u32],
-    plan: &[u32],
-    road: Road,
-) -> Tally
-    requires { Mapped vehicles.now stops.now locations distances.now plan.now }
-    ensures { PlanTally vehicles.now stops.now locations distances.now plan.now road result }
+fn plan_tally(network: &Network, plan: &Plan, road: Road) -> Tally
+    requires { Mapped network.now plan.now }
+    ensures { PlanTally network.now plan.now road result }
 {
-    let v = vehicles.len() / 2;
     let mut uses: u32 = 0;
     let mut metres: u32 = 0;
-    let mut at = v;
-    for k in 0..v {
-        let last = at + plan[k] as usize;
-        let start = vehicles[2 * k];
-        let end = vehicles[2 * k + 1];
-        let one = route_tally(
-            stops,
-            locations,
-            distances,
-            road,
-            start,
-            end,
-            &plan[at..last],
-        );
+    for k in 0..plan.v {
+        let start = network.vehicles[2 * k];
+        let end = network.vehicles[2 * k + 1];
+        let one = route_tally(network, road, start, end, plan.route(k));
         uses += one.uses;
         metres += one.metres;
-        at = last;
     }
     Tally { uses, metres }
 }
@@ -100,19 +74,10 @@ fn ceiling_from(tally: Tally, more: u32, prices: Prices) -> u64
 }
 
 // The most by which a plan's cost can rise where a road of the table gets longer.
-pub fn ceiling(
-    vehicles: &[u32],
-    stops: &[u32],
-    locations: u32,
-    distances: &[u32],
-    prices: Prices,
-    plan: &[u32],
-    road: Road,
-) -> u64
-    requires { Mapped vehicles.now stops.now locations distances.now plan.now × Affordable prices × (road.more ≤ 200000) }
-    ensures { result ≡ ceiling (job_of vehicles.now stops.now locations distances.now prices) road
-        (decode (length vehicles.now / 2) plan.now) }
+pub fn ceiling(job: &Job, plan: &Plan, road: Road) -> u64
+    requires { Mapped job.now.network plan.now × Affordable job.now.prices × (road.more ≤ 200000) }
+    ensures { result ≡ ceiling (of_lent job.now) road (routes plan.now) }
 {
-    let tally = plan_tally(vehicles, stops, locations, distances, plan, road);
-    ceiling_from(tally, road.more, prices)
+    let tally = plan_tally(&job.network, plan, road);
+    ceiling_from(tally, road.more, job.prices)
 }

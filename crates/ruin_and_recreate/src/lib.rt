@@ -1,30 +1,27 @@
 // The run: rounds from the start plan up to the end rule.
 #![tactic(auto)]
 
-ghost use Rattle.model.specs.Plan.{decode};
+ghost use Rattle.std.specs.Prelude.{◌≡◌};
 ghost use Rattle.nearest_neighbor.specs.Answers.{Started};
 ghost use Rattle.run_round.specs.Standing.{Course, CostOf};
 ghost use Rattle.ruin_and_recreate.specs.Runs.{Ended, Runnable, Ran};
 
-use model::{Prices, Totals};
+use distance::Tariff;
+use model::{Settings, Totals};
 use run_round::Progress;
+use solution::Plan;
 
-// The rounds from the start plan on, which costs `start`: until the stopping rule holds, at most `limit` of them.
+// The rounds from the start plan on, which costs `start`: until the stopping rule holds, at most as many as the settings' limit.
 fn rounds(
-    legs: &[u32],
-    v: usize,
-    n: usize,
-    prices: Prices,
+    tariff: &Tariff,
     near: &[u32],
-    draws: &[u32],
-    smoothing: u32,
-    limit: u32,
-    plan: &mut [u32],
+    settings: &Settings,
+    plan: &mut Plan,
     start: f64,
 ) -> Progress
-    requires course { Course legs.now v n prices near.now draws.now smoothing }
-    requires started { Started legs.now v n plan.old × CostOf legs.now v n prices (decode v plan.old) start }
-    ensures { Ended legs.now v n prices draws.now smoothing limit plan.new result }
+    requires course { Course tariff.now plan.old.n near.now settings.now.draws.now settings.now.smoothing }
+    requires started { Started tariff.now.legs.table plan.old.v plan.old.n plan.old × CostOf tariff.now plan.old start }
+    ensures { Ended tariff.now settings.now plan.old plan.new result }
 {
     let mut p = Progress {
         averages: settle::none(),
@@ -33,8 +30,8 @@ fn rounds(
         improving: 0,
         place: 0,
     };
-    for _done in 0..limit {
-        p = run_round::round(legs, v, n, prices, near, draws, smoothing, plan, p);
+    for _done in 0..settings.limit {
+        p = run_round::round(tariff, near, settings.draws, settings.smoothing, plan, p);
         let a = p.averages;
         if settle::settled(a, p.rounds) {
             return p;
@@ -44,41 +41,33 @@ fn rounds(
 }
 
 // The run: the start plan, and rounds up to the end rule. Without a vehicle or with fewer than two stops there are no rounds.
-pub fn run(
-    legs: &[u32],
-    v: usize,
-    n: usize,
-    prices: Prices,
-    smoothing: u32,
-    limit: u32,
-    draws: &[u32],
-    plan: &mut [u32],
-) -> Totals
-    requires { Runnable legs.now v n prices draws.now smoothing plan.old }
-    ensures { Ran legs.now v n prices draws.now smoothing limit plan.new result }
+pub fn run(tariff: &Tariff, v: usize, n: usize, settings: &Settings) -> (Plan, Totals)
+    requires { Runnable v n settings.now }
+    ensures sizes { (result.0.v ≡ v) × (result.0.n ≡ n) }
+    ensures ran { Ran tariff.now v n settings.now result.0 result.1 }
 {
-    nearest_neighbor::start_plan(legs, v, n, plan);
-    let start = delivery::cost(legs, v, n, prices, plan);
+    let mut plan = nearest_neighbor::start_plan(&tariff.legs, v, n);
+    let start = delivery::cost(tariff, &plan);
     if v == 0 || n < 2 {
-        return Totals {
+        let totals = Totals {
             start,
             end: start,
             rounds: 0,
             improving: 0,
             settled: true,
         };
+        return (plan, totals);
     }
     let mut near = [0u32; 4096];
-    nearest_neighbor::neighbours(legs, n, &mut near);
-    let last = rounds(
-        legs, v, n, prices, &near, draws, smoothing, limit, plan, start,
-    );
+    nearest_neighbor::neighbours(&tariff.legs, n, &mut near);
+    let last = rounds(tariff, &near, settings, &mut plan, start);
     let a = last.averages;
-    Totals {
+    let totals = Totals {
         start,
         end: last.cost,
         rounds: last.rounds,
         improving: last.improving,
         settled: settle::settled(a, last.rounds),
-    }
+    };
+    (plan, totals)
 }

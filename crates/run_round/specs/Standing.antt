@@ -1,13 +1,14 @@
 -- Where a run stands between its rounds: what the code carries, and the state of the definition that it is.
 use Rattle.std.specs.Prelude.{◌≡◌, ℕ, ◌+◌, ◌*◌, ◌≤◌, ◌<◌, cond, List, ltb, Float, length}
-use Rattle.model.specs.declared.Prices.{Prices}
 use Rattle.model.specs.Whole.{whole, exact}
 use Rattle.model.specs.Job.{Job}
-use Rattle.model.specs.Plan.{Plan, decode, Lent, Sizes}
-use Rattle.model.specs.Legs.{LegTable, Affordable, Fits}
 use Rattle.model.specs.Cost.{cost}
 use Rattle.model.specs.Settle.{averaged}
 use Rattle.model.specs.Run.{task_for, State, round_from}
+use Rattle.distance.specs.declared.tariff.Tariff.{Tariff}
+use Rattle.solution.specs.declared.plan.Plan.{Plan}
+use Rattle.solution.specs.Held.{routes}
+use Rattle.delivery.specs.Held.{IsJobOf}
 use Rattle.nearest_neighbor.specs.Answers.{Neighbours}
 use Rattle.run_round.specs.declared.Progress.{Progress}
 
@@ -29,34 +30,33 @@ pub record Counted (p : Progress) (new : Float) (picks c : ℕ) (r : Progress) :
       → (r.averages ≡ averaged c p.averages m k) × (r.improving ≡ p.improving + cond (ltb k m) 1 0)
 
 -- the state of the definition
-abbrev pub state_of : ℕ → List ℕ → Progress → State
-state_of v xs p =
-    record { plan = decode v xs; averages = p.averages; done = p.rounds; improving = p.improving; place = p.place }
+abbrev pub state_of : Plan → Progress → State
+state_of plan p =
+    record { plan = routes plan; averages = p.averages; done = p.rounds; improving = p.improving; place = p.place }
 
--- c is what P costs, for every job that fits
-abbrev pub CostOf : List ℕ → ℕ → ℕ → Prices → Plan → Float → Type 0
-CostOf legs v n p P c = (J : Job) → Fits J legs v n p → c ≡ whole (cost J P)
+-- c is what a plan costs, for every job that fits
+abbrev pub CostOf : Tariff → Plan → Float → Type 0
+CostOf t plan c = (J : Job) → IsJobOf J t plan → c ≡ whole (cost J (routes plan))
 
--- what does not change in a run: the legs, the sizes and the prices, S(x) of each stop, the draws, the smoothing count
-pub record Course (legs : List ℕ) (v n : ℕ) (prices : Prices) (near draws : List ℕ) (c : ℕ) : Type 0 where
-  pub table : LegTable legs
-  pub sizes : Sizes v n
-  pub affordable : Affordable prices
+-- what does not change in a run: the tariff, two stops or more, S(x) of each stop, the draws, the smoothing count
+pub record Course (t : Tariff) (n : ℕ) (near draws : List ℕ) (c : ℕ) : Type 0 where
   pub several : 2 ≤ n
   pub long : length near ≡ 4096
-  pub rows : Neighbours legs n near
+  pub rows : Neighbours t.legs.table n near
   pub some : 0 < length draws
   pub smooth : 1 ≤ c
 
 -- what does: the plan, its cost, and the counts
-pub record Standing (legs : List ℕ) (v n : ℕ) (prices : Prices) (plan : List ℕ) (p : Progress) : Type 0 where
-  pub lent : Lent v n plan
-  pub costs : CostOf legs v n prices (decode v plan) p.cost
+pub record Standing (t : Tariff) (plan : Plan) (p : Progress) : Type 0 where
+  pub costs : CostOf t plan p.cost
   pub counted : p.improving ≤ p.rounds
   pub early : p.place ≤ 5 * p.rounds
 
--- a round takes the plan xs with p to the plan ys with r: it stands again, and for every job that fits the state is the one that the definition's round leaves
-pub record Rounded (legs : List ℕ) (v n : ℕ) (prices : Prices) (draws : List ℕ) (c : ℕ) (xs : List ℕ) (p : Progress) (ys : List ℕ) (r : Progress) : Type 0 where
-  pub stands : Standing legs v n prices ys r
+-- a round takes a plan with p to a plan of the same sizes with r: it stands again, and for every job that fits the state is the one that the
+-- definition's round leaves
+pub record Rounded (t : Tariff) (draws : List ℕ) (c : ℕ) (old : Plan) (p : Progress) (new : Plan) (r : Progress) : Type 0 where
+  pub vehicles : new.v ≡ old.v
+  pub stops : new.n ≡ old.n
+  pub stands : Standing t new r
   pub rounds : r.rounds ≡ p.rounds + 1
-  pub is : (J : Job) (limit : ℕ) → Fits J legs v n prices → state_of v ys r ≡ (round_from (task_for J c limit draws) (state_of v xs p)).end
+  pub is : (J : Job) (limit : ℕ) → IsJobOf J t old → state_of new r ≡ (round_from (task_for J c limit draws) (state_of old p)).end

@@ -5,7 +5,9 @@ ghost use Rattle.std.specs.Prelude.{◌≡◌, ℕ, ◌<◌, ◌≤◌, cond, lt
 ghost use Rattle.model.specs.Whole.{whole, exact};
 ghost use Rattle.run_round.specs.Standing.{Countable, Counted, Course, Standing, Rounded};
 
-use model::{Averages, Prices};
+use distance::Tariff;
+use model::Averages;
+use solution::Plan;
 
 // What a run carries from round to round beside its plan: the averages, what the plan costs, the rounds done, the improving ones among them,
 // and the place in the draws.
@@ -44,25 +46,23 @@ fn counted(p: Progress, new: f64, picks: usize, smoothing: u32) -> Progress
 
 // One round: the two-opt pass at a drawn stop, the picks, the rebuild, the averages and the counts.
 pub fn round(
-    legs: &[u32],
-    v: usize,
-    n: usize,
-    prices: Prices,
+    tariff: &Tariff,
     near: &[u32],
     draws: &[u32],
     smoothing: u32,
-    plan: &mut [u32],
+    plan: &mut Plan,
     p: Progress,
 ) -> Progress
-    requires course { Course legs.now v n prices near.now draws.now smoothing }
-    requires standing { Standing legs.now v n prices plan.old p × (p.rounds < 4294967295) }
-    ensures { Rounded legs.now v n prices draws.now smoothing plan.old p plan.new result }
+    requires course { Course tariff.now plan.old.n near.now draws.now smoothing }
+    requires standing { Standing tariff.now plan.old p × (p.rounds < 4294967295) }
+    ensures { Rounded tariff.now draws.now smoothing plan.old p plan.new result }
 {
+    let n = plan.n;
     let place = p.place;
     let row = run_draws::among(draws, place, n) * 64;
-    two_opt::pass(legs, v, n, prices, plan, &near[row..row + n]);
+    two_opt::pass(tariff, plan, &near[row..row + n]);
     let mut picks = [0u32; 2];
     let k = run_draws::pick(near, n, draws, place, &mut picks);
-    let walk = rebuild::rebuild(legs, v, n, prices, plan, &picks[0..k]);
+    let walk = rebuild::rebuild(tariff, plan, &picks[0..k]);
     counted(p, walk.cost, k, smoothing)
 }

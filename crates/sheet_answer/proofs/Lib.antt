@@ -1,5 +1,4 @@
 pub mod Ran
-pub mod Held
 pub mod Found
 pub mod Longest
 pub mod Once

@@ -1,7 +1,7 @@
 -- The list of zeros that view is lent for what is seen.
 use Rattle.std.proofs.Common.{◌≡◌, ◌∙◌, ap, ℕ, ◌≤◌, List}
 use lib.ListN.{length, take, replicate, length-replicate}
-use Rattle.file_job.proofs.Held.{take-replicate}
+use Rattle.std.proofs.lemmas.List.{take-replicate}
 use Rattle.sheet_lines.specs.Printed.{Printable, most_for_sheet}
 
 -- how long it is

@@ -1,18 +1,19 @@
 // Call sheets: a call's number, its lists and a job file are read from bytes, the call is run, and its answer is printed to bytes.
 #![tactic(auto)]
 
-ghost use Rattle.std.specs.Prelude.{◌≡◌, ◌≤◌, length};
+ghost use Rattle.std.specs.Prelude.{◌≡◌, ◌≤◌, length, take};
 ghost use Rattle.model.specs.Run.{task_for};
-ghost use Rattle.model.specs.Job.{job_of};
-ghost use Rattle.file_job.specs.Reading.{buffers};
+ghost use Rattle.model.specs.Job.{of_lent};
 ghost use Rattle.file_printing.specs.Printing.{Prints};
 ghost use Rattle.sheet_lines.specs.Printed.{most_for_sheet};
+ghost use Rattle.sheet_head.specs.Form.{longest_plan};
 ghost use Rattle.sheet_head.specs.Numbered.{number_of_call};
-ghost use Rattle.sheet_answer.specs.Sheets.{call_of, printed_call};
-ghost use Rattle.sheet_answer.specs.Running.{Runs, Small, plan_length, ReadySheet, SheetPrints, AnswersSheet};
+ghost use Rattle.sheet_head.specs.Reading.{plan_of};
+ghost use Rattle.sheet_answer.specs.Sheets.{ReadableSheet, call_of, printed_call, printed_sheet};
+ghost use Rattle.sheet_answer.specs.Running.{Runs, Small, lent_plan, sheet_in, AnswersSheet};
 
-use file_job::Header;
-use model::{Prices, Refusal};
+use file_job::Task;
+use model::{Job, Refusal, Settings};
 use sheet_head::{Call, Head};
 
 // The position after a sheet that was answered, and how many bytes are printed for it; or how many are where no sheet stands.
@@ -26,113 +27,70 @@ pub enum SheetRead {
 // Runs a call and prints its answer: how many bytes it is.
 fn run_call(
     call: Call,
-    vehicles: &[u32],
-    stops: &[u32],
-    locations: u32,
-    distances: &[u32],
-    prices: Prices,
-    smoothing: u32,
-    limit: u32,
-    draws: &[u32],
+    job: &Job,
+    settings: &Settings,
     given: &[u32],
     plan: &mut [u32],
     out: &mut [u8],
 ) -> usize
     requires runs { Runs (number_of_call call) given.now plan.old out.old }
-    requires small { Small vehicles.now stops.now }
+    requires small { Small job.now.network.vehicles.now job.now.network.stops.now }
     ensures { Prints out.old out.new result (printed_call (call_of (number_of_call call)) given.now plan.old
-        (task_for (job_of vehicles.now stops.now locations distances.now prices) smoothing limit draws.now)) }
+        (task_for (of_lent job.now) settings.now.smoothing settings.now.limit settings.now.draws.now)) }
 {
     match call {
-        Call::Weigh => sheet_calls::weigh(vehicles, stops, locations, distances, prices, plan, out),
-        Call::StartPlan => sheet_calls::start_plan(
-            vehicles, stops, locations, distances, plan, out,
-        ),
-        Call::TwoOpt => {
-            let first = given[0];
-            let second = given[1];
-            sheet_calls::two_opt(
-                vehicles, stops, locations, distances, prices, plan, first, second, out,
-            )
-        }
-        Call::Rebuild => sheet_calls::rebuild(
-            vehicles, stops, locations, distances, prices, plan, given, out,
-        ),
-        Call::Exhaustive => sheet_calls::exhaustive(
-            vehicles, stops, locations, distances, prices, plan, out,
-        ),
-        Call::Pruned => sheet_calls::pruned(
-            vehicles, stops, locations, distances, prices, plan, out,
-        ),
-        Call::Solve => sheet_calls::solve(
-            vehicles, stops, locations, distances, prices, smoothing, limit, draws, plan, out,
-        ),
-        Call::Arrive => sheet_calls::arrive(
-            vehicles, stops, locations, distances, prices, plan, given, out,
-        ),
-        Call::Cancel => sheet_calls::cancel(
-            vehicles, stops, locations, distances, prices, plan, given, out,
-        ),
+        Call::Weigh => sheet_calls::weigh(job, plan, out),
+        Call::StartPlan => sheet_calls::start_plan(&job.network, plan, out),
+        Call::TwoOpt => sheet_calls::two_opt(job, plan, given[0], given[1], out),
+        Call::Rebuild => sheet_calls::rebuild(job, plan, given, out),
+        Call::Exhaustive => sheet_calls::exhaustive(job, plan, out),
+        Call::Pruned => sheet_calls::pruned(job, plan, out),
+        Call::Solve => sheet_calls::solve(job, settings, plan, out),
+        Call::Arrive => sheet_calls::arrive(job, plan, given, out),
+        Call::Cancel => sheet_calls::cancel(job, plan, given, out),
         Call::View => {
-            let vans = given[0];
+            let vehicles = job.network.vehicles;
+            let stops = job.network.stops;
             let mut seen = [0u32; 96];
             let m = vehicles.len() / 2 + stops.len();
-            sheet_calls::view(vehicles, stops, plan, vans, &mut seen[..m], out)
+            sheet_calls::view(vehicles, stops, plan, given[0], &mut seen[..m], out)
         }
-        Call::MoveStop => sheet_calls::move_stop(
-            vehicles, stops, locations, distances, prices, plan, given, out,
-        ),
-        Call::Roadworks => sheet_calls::roadworks(
-            vehicles, stops, locations, distances, prices, plan, given, out,
-        ),
+        Call::MoveStop => sheet_calls::move_stop(job, plan, given, out),
+        Call::Roadworks => sheet_calls::roadworks(job, plan, given, out),
     }
 }
 
-// How long the plan is that a call is lent: as its line, or as the whole job's.
-fn plan_length(call: Call, lined: usize, whole: usize) -> usize
-    ensures { result ≡ plan_length (number_of_call call) lined whole }
+// The plan that a call is lent, at the front of an array, and how many numbers it has: those of its line, or a zero for each vehicle and
+// each stop of the job.
+fn lent_plan(head: &Head, whole: usize) -> ([u32; 96], usize)
+    requires { whole ≤ longest_plan }
+    ensures { (result.1 ≤ longest_plan)
+        × (take result.1 result.0 ≡ lent_plan (number_of_call head.now.call) (plan_of head.now) whole) }
 {
-    if call.has_plan() {
-        return lined;
+    let mut plan = [0u32; 96];
+    if !head.call.has_plan() {
+        return (plan, whole);
     }
-    whole
+    let lined = head.plan();
+    plan[..lined.len()].copy_from_slice(lined);
+    (plan, lined.len())
 }
 
-// Runs the call of a sheet whose lists stand at the front of those that are lent.
-fn run_sheet(
-    head: Head,
-    h: Header,
-    vehicles: &[u32],
-    stops: &[u32],
-    distances: &[u32],
-    draws: &[u32],
-    given: &[u32],
-    plan: &mut [u32],
-    out: &mut [u8],
-) -> usize
-    requires { ReadySheet head h (buffers vehicles.now stops.now distances.now draws.now) given.now plan.old out.old }
-    ensures { SheetPrints head h (buffers vehicles.now stops.now distances.now draws.now)
-        given.now plan.old out.old out.new result }
+// Runs the call of a sheet and prints its answer: how many bytes it is.
+fn run_sheet(head: &Head, task: &Task, out: &mut [u8]) -> usize
+    requires readable { ReadableSheet (sheet_in head.now task.now) }
+    requires room { most_for_sheet ≤ length out.old }
+    ensures { Prints out.old out.new result (printed_sheet (sheet_in head.now task.now)) }
 {
-    let ends = h.vehicles * 2;
-    let n = h.stops;
-    let l = h.locations as usize;
-    let entries = l * l;
-    let d = h.draws;
-    let g = head.given;
-    let m = plan_length(head.call, head.plan, h.vehicles + n);
+    let job = task.job();
+    let whole = job.network.vehicles.len() / 2 + job.network.stops.len();
+    let (mut plan, m) = lent_plan(head, whole);
     run_call(
         head.call,
-        &vehicles[0..ends],
-        &stops[0..n],
-        h.locations,
-        &distances[0..entries],
-        h.prices,
-        h.smoothing,
-        h.limit,
-        &draws[0..d],
-        &given[0..g],
-        &mut plan[0..m],
+        &job,
+        &task.settings(),
+        head.given(),
+        &mut plan[..m],
         out,
     )
 }
@@ -142,28 +100,13 @@ pub fn answer_sheet(bytes: &[u8], at: usize, out: &mut [u8]) -> SheetRead
     requires { most_for_sheet ≤ length out.old }
     ensures { AnswersSheet bytes.now at out.old out.new result }
 {
-    let mut given = [0u32; 8];
-    let mut plan = [0u32; 96];
-    let Some(head) = sheet_head::read_head(bytes, at, &mut given, &mut plan) else {
+    let Some(head) = sheet_head::read_head(bytes, at) else {
         return SheetRead::Bad(sheet_lines::print_refused(Refusal::File, out));
     };
     let file = head.end;
-    let mut vehicles = [0u32; 32];
-    let mut stops = [0u32; 64];
-    let mut distances = [0u32; 6400];
-    let mut draws = [0u32; 1024];
-    let Ok(h) = file_job::read_at(
-        bytes,
-        file,
-        &mut vehicles,
-        &mut stops,
-        &mut distances,
-        &mut draws,
-    ) else {
+    let Ok(task) = file_job::read_at(bytes, file) else {
         return SheetRead::Bad(sheet_lines::print_refused(Refusal::File, out));
     };
-    let printed = run_sheet(
-        head, h, &vehicles, &stops, &distances, &draws, &given, &mut plan, out,
-    );
-    SheetRead::Answered(h.end, printed)
+    let printed = run_sheet(&head, &task, out);
+    SheetRead::Answered(task.header.end, printed)
 }

@@ -2,7 +2,7 @@
 #![tactic(auto)]
 
 ghost use Rattle.std.specs.Prelude.{◌≡◌, [], ◌∷◌, length};
-ghost use Rattle.model.specs.Job.{job_of};
+ghost use Rattle.model.specs.Job.{priced, of_lent};
 ghost use Rattle.model.specs.Refusals.{asking, Weigh, StartPlan, TwoOpt, Rebuild, Exhaustive, Pruned, Solve, Arrive, Cancel, MoveStop, unpriced, running, looking, tableless, lengthening};
 ghost use Rattle.model.specs.Calls.{cost_answer, rebuild_answer, start_answer, plan_left, solve_answer, live_answer, view_answer, seen_left, move_answer, road_answer};
 ghost use Rattle.file_printing.specs.Printing.{Prints};
@@ -11,147 +11,82 @@ ghost use Rattle.sheet_calls.specs.Changing.{live_of, changing};
 ghost use Rattle.sheet_calls.specs.Moving.{carrying};
 ghost use Rattle.sheet_calls.specs.Lengthening.{road_of};
 
-use model::Prices;
+use model::{Job, Move, Network, Road, Settings};
 
 // Weighs a plan and prints the answer: how many bytes it is.
-pub fn weigh(
-    vehicles: &[u32],
-    stops: &[u32],
-    locations: u32,
-    distances: &[u32],
-    prices: Prices,
-    plan: &[u32],
-    out: &mut [u8],
-) -> usize
+pub fn weigh(job: &Job, plan: &[u32], out: &mut [u8]) -> usize
     requires { Printable plan.now out.old }
     ensures { Prints out.old out.new result
-        (printed_weight (cost_answer Weigh (asking (job_of vehicles.now stops.now locations distances.now prices) plan.now []))) }
+        (printed_weight (cost_answer Weigh (asking (of_lent job.now) plan.now []))) }
 {
-    let answer = planner::weigh(vehicles, stops, locations, distances, prices, plan);
+    let answer = planner::weigh(job, plan);
     sheet_lines::print_value(answer, out)
 }
 
 // Writes the start plan and prints it.
-pub fn start_plan(
-    vehicles: &[u32],
-    stops: &[u32],
-    locations: u32,
-    distances: &[u32],
-    plan: &mut [u32],
-    out: &mut [u8],
-) -> usize
+pub fn start_plan(network: &Network, plan: &mut [u32], out: &mut [u8]) -> usize
     requires { Printable plan.old out.old }
     ensures prints { Prints out.old out.new result
-        (printed_start (start_answer (asking (job_of vehicles.now stops.now locations distances.now unpriced) plan.old []))
+        (printed_start (start_answer (asking (priced network.now unpriced) plan.old []))
         plan.new) }
-    ensures plan_after { plan.new ≡ plan_left StartPlan (asking (job_of vehicles.now stops.now locations distances.now unpriced) plan.old []) }
+    ensures plan_after { plan.new ≡ plan_left StartPlan (asking (priced network.now unpriced) plan.old []) }
 {
-    let written = planner::start_plan(vehicles, stops, locations, distances, plan);
+    let written = planner::start_plan(network, plan);
     sheet_lines::print_answer(written, plan, out)
 }
 
 // Makes the two-opt move of two stops, and prints the cost and the plan: how many bytes it is.
-pub fn two_opt(
-    vehicles: &[u32],
-    stops: &[u32],
-    locations: u32,
-    distances: &[u32],
-    prices: Prices,
-    plan: &mut [u32],
-    first: u32,
-    second: u32,
-    out: &mut [u8],
-) -> usize
+pub fn two_opt(job: &Job, plan: &mut [u32], first: u32, second: u32, out: &mut [u8]) -> usize
     requires { Printable plan.old out.old }
     ensures prints { Prints out.old out.new result
-        (printed_weighed (cost_answer TwoOpt (asking (job_of vehicles.now stops.now locations distances.now prices) plan.old (first ∷ second ∷ []))) plan.new) }
-    ensures plan_after { plan.new ≡ plan_left TwoOpt (asking (job_of vehicles.now stops.now locations distances.now prices) plan.old (first ∷ second ∷ [])) }
+        (printed_weighed (cost_answer TwoOpt (asking (of_lent job.now) plan.old (first ∷ second ∷ []))) plan.new) }
+    ensures plan_after { plan.new ≡ plan_left TwoOpt (asking (of_lent job.now) plan.old (first ∷ second ∷ [])) }
 {
-    let answer = planner::two_opt(
-        vehicles, stops, locations, distances, prices, plan, first, second,
-    );
+    let answer = planner::two_opt(job, plan, first, second);
     sheet_lines::print_answer(answer, plan, out)
 }
 
 // Rebuilds around the given stops, and prints the cost, the fillings begun, the arrangements completed and the plan.
-pub fn rebuild(
-    vehicles: &[u32],
-    stops: &[u32],
-    locations: u32,
-    distances: &[u32],
-    prices: Prices,
-    plan: &mut [u32],
-    given: &[u32],
-    out: &mut [u8],
-) -> usize
+pub fn rebuild(job: &Job, plan: &mut [u32], given: &[u32], out: &mut [u8]) -> usize
     requires { Printable plan.old out.old }
     ensures prints { Prints out.old out.new result
-        (printed_rebuilt (rebuild_answer (asking (job_of vehicles.now stops.now locations distances.now prices) plan.old given.now)) plan.new) }
-    ensures plan_after { plan.new ≡ plan_left Rebuild (asking (job_of vehicles.now stops.now locations distances.now prices) plan.old given.now) }
+        (printed_rebuilt (rebuild_answer (asking (of_lent job.now) plan.old given.now)) plan.new) }
+    ensures plan_after { plan.new ≡ plan_left Rebuild (asking (of_lent job.now) plan.old given.now) }
 {
-    let answer = planner::rebuild(vehicles, stops, locations, distances, prices, plan, given);
+    let answer = planner::rebuild(job, plan, given);
     sheet_lines::print_answer(answer, plan, out)
 }
 
 // Prints the cost and the plan of the exhaustive solver: how many bytes it is.
-pub fn exhaustive(
-    vehicles: &[u32],
-    stops: &[u32],
-    locations: u32,
-    distances: &[u32],
-    prices: Prices,
-    plan: &mut [u32],
-    out: &mut [u8],
-) -> usize
+pub fn exhaustive(job: &Job, plan: &mut [u32], out: &mut [u8]) -> usize
     requires { Printable plan.old out.old }
     ensures prints { Prints out.old out.new result
-        (printed_weighed (cost_answer Exhaustive (asking (job_of vehicles.now stops.now locations distances.now prices) plan.old [])) plan.new) }
-    ensures plan_after { plan.new ≡ plan_left Exhaustive (asking (job_of vehicles.now stops.now locations distances.now prices) plan.old []) }
+        (printed_weighed (cost_answer Exhaustive (asking (of_lent job.now) plan.old [])) plan.new) }
+    ensures plan_after { plan.new ≡ plan_left Exhaustive (asking (of_lent job.now) plan.old []) }
 {
-    let answer = planner::exhaustive(vehicles, stops, locations, distances, prices, plan);
+    let answer = planner::exhaustive(job, plan);
     sheet_lines::print_answer(answer, plan, out)
 }
 
 // Prints those of the pruned solver.
-pub fn pruned(
-    vehicles: &[u32],
-    stops: &[u32],
-    locations: u32,
-    distances: &[u32],
-    prices: Prices,
-    plan: &mut [u32],
-    out: &mut [u8],
-) -> usize
+pub fn pruned(job: &Job, plan: &mut [u32], out: &mut [u8]) -> usize
     requires { Printable plan.old out.old }
     ensures prints { Prints out.old out.new result
-        (printed_weighed (cost_answer Pruned (asking (job_of vehicles.now stops.now locations distances.now prices) plan.old [])) plan.new) }
-    ensures plan_after { plan.new ≡ plan_left Pruned (asking (job_of vehicles.now stops.now locations distances.now prices) plan.old []) }
+        (printed_weighed (cost_answer Pruned (asking (of_lent job.now) plan.old [])) plan.new) }
+    ensures plan_after { plan.new ≡ plan_left Pruned (asking (of_lent job.now) plan.old []) }
 {
-    let answer = planner::pruned(vehicles, stops, locations, distances, prices, plan);
+    let answer = planner::pruned(job, plan);
     sheet_lines::print_answer(answer, plan, out)
 }
 
 // Runs the planner, and prints the numbers of the run and the plan: how many bytes it is.
-pub fn solve(
-    vehicles: &[u32],
-    stops: &[u32],
-    locations: u32,
-    distances: &[u32],
-    prices: Prices,
-    smoothing: u32,
-    limit: u32,
-    draws: &[u32],
-    plan: &mut [u32],
-    out: &mut [u8],
-) -> usize
+pub fn solve(job: &Job, settings: &Settings, plan: &mut [u32], out: &mut [u8]) -> usize
     requires { Printable plan.old out.old }
     ensures prints { Prints out.old out.new result
-        (printed_solved (solve_answer (running (job_of vehicles.now stops.now locations distances.now prices) smoothing limit draws.now plan.old)) plan.new) }
-    ensures plan_after { plan.new ≡ plan_left Solve (running (job_of vehicles.now stops.now locations distances.now prices) smoothing limit draws.now plan.old) }
+        (printed_solved (solve_answer (running (of_lent job.now) settings.now.smoothing settings.now.limit settings.now.draws.now plan.old)) plan.new) }
+    ensures plan_after { plan.new ≡ plan_left Solve (running (of_lent job.now) settings.now.smoothing settings.now.limit settings.now.draws.now plan.old) }
 {
-    let answer = planner::solve(
-        vehicles, stops, locations, distances, prices, smoothing, limit, draws, plan,
-    );
+    let answer = planner::solve(job, settings, plan);
     sheet_lines::print_answer(answer, plan, out)
 }
 
@@ -164,52 +99,30 @@ fn live_set(given: &[u32]) -> u64
 }
 
 // Adds a stop, and prints the set of live stops, the cost and the plan: how many bytes it is.
-pub fn arrive(
-    vehicles: &[u32],
-    stops: &[u32],
-    locations: u32,
-    distances: &[u32],
-    prices: Prices,
-    plan: &mut [u32],
-    given: &[u32],
-    out: &mut [u8],
-) -> usize
+pub fn arrive(job: &Job, plan: &mut [u32], given: &[u32], out: &mut [u8]) -> usize
     requires printable { Printable plan.old out.old }
     requires given_len { length given.now ≡ 3 }
     ensures prints { Prints out.old out.new result
-        (printed_changed (live_answer Arrive (changing (job_of vehicles.now stops.now locations distances.now prices) plan.old given.now)) plan.new) }
-    ensures plan_after { plan.new ≡ plan_left Arrive (changing (job_of vehicles.now stops.now locations distances.now prices) plan.old given.now) }
+        (printed_changed (live_answer Arrive (changing (of_lent job.now) plan.old given.now)) plan.new) }
+    ensures plan_after { plan.new ≡ plan_left Arrive (changing (of_lent job.now) plan.old given.now) }
 {
     let live = live_set(given);
     let stop = given[0];
-    let answer = planner::arrive(
-        vehicles, stops, locations, distances, prices, plan, live, stop,
-    );
+    let answer = planner::arrive(job, plan, live, stop);
     sheet_lines::print_answer(answer, plan, out)
 }
 
 // Cancels a stop, and prints the same.
-pub fn cancel(
-    vehicles: &[u32],
-    stops: &[u32],
-    locations: u32,
-    distances: &[u32],
-    prices: Prices,
-    plan: &mut [u32],
-    given: &[u32],
-    out: &mut [u8],
-) -> usize
+pub fn cancel(job: &Job, plan: &mut [u32], given: &[u32], out: &mut [u8]) -> usize
     requires printable { Printable plan.old out.old }
     requires given_len { length given.now ≡ 3 }
     ensures prints { Prints out.old out.new result
-        (printed_changed (live_answer Cancel (changing (job_of vehicles.now stops.now locations distances.now prices) plan.old given.now)) plan.new) }
-    ensures plan_after { plan.new ≡ plan_left Cancel (changing (job_of vehicles.now stops.now locations distances.now prices) plan.old given.now) }
+        (printed_changed (live_answer Cancel (changing (of_lent job.now) plan.old given.now)) plan.new) }
+    ensures plan_after { plan.new ≡ plan_left Cancel (changing (of_lent job.now) plan.old given.now) }
 {
     let live = live_set(given);
     let stop = given[0];
-    let answer = planner::cancel(
-        vehicles, stops, locations, distances, prices, plan, live, stop,
-    );
+    let answer = planner::cancel(job, plan, live, stop);
     sheet_lines::print_answer(answer, plan, out)
 }
 
@@ -232,53 +145,34 @@ pub fn view(
 }
 
 // Moves a stop, and prints the change in cost and the plan.
-pub fn move_stop(
-    vehicles: &[u32],
-    stops: &[u32],
-    locations: u32,
-    distances: &[u32],
-    prices: Prices,
-    plan: &mut [u32],
-    given: &[u32],
-    out: &mut [u8],
-) -> usize
+pub fn move_stop(job: &Job, plan: &mut [u32], given: &[u32], out: &mut [u8]) -> usize
     requires printable { Printable plan.old out.old }
     requires given_len { length given.now ≡ 4 }
     ensures prints { Prints out.old out.new result
-        (printed_moved (move_answer (carrying (job_of vehicles.now stops.now locations distances.now prices) plan.old given.now)) plan.new) }
-    ensures plan_after { plan.new ≡ plan_left MoveStop (carrying (job_of vehicles.now stops.now locations distances.now prices) plan.old given.now) }
+        (printed_moved (move_answer (carrying (of_lent job.now) plan.old given.now)) plan.new) }
+    ensures plan_after { plan.new ≡ plan_left MoveStop (carrying (of_lent job.now) plan.old given.now) }
 {
-    let vans = given[0];
-    let stop = given[1];
-    let van = given[2];
-    let place = given[3];
-    let answer = planner::move_stop(
-        vehicles, stops, locations, distances, prices, plan, vans, stop, van, place,
-    );
+    let m = Move {
+        stop: given[1],
+        van: given[2],
+        place: given[3],
+    };
+    let answer = planner::move_stop(job, plan, given[0], m);
     sheet_lines::print_answer(answer, plan, out)
 }
 
 // Asks how much dearer a plan can become where a road gets longer, and prints that.
-pub fn roadworks(
-    vehicles: &[u32],
-    stops: &[u32],
-    locations: u32,
-    distances: &[u32],
-    prices: Prices,
-    plan: &[u32],
-    given: &[u32],
-    out: &mut [u8],
-) -> usize
+pub fn roadworks(job: &Job, plan: &[u32], given: &[u32], out: &mut [u8]) -> usize
     requires printable { Printable plan.now out.old }
     requires given_len { length given.now ≡ 3 }
     ensures { Prints out.old out.new result
-        (printed_raised (road_answer (lengthening (job_of vehicles.now stops.now locations distances.now prices) plan.now (road_of given.now)))) }
+        (printed_raised (road_answer (lengthening (of_lent job.now) plan.now (road_of given.now)))) }
 {
-    let from = given[0];
-    let to = given[1];
-    let more = given[2];
-    let answer = planner::roadworks(
-        vehicles, stops, locations, distances, prices, plan, from, to, more,
-    );
+    let road = Road {
+        from: given[0],
+        to: given[1],
+        more: given[2],
+    };
+    let answer = planner::roadworks(job, plan, road);
     sheet_lines::print_value(answer, out)
 }

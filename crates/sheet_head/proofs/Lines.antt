@@ -5,18 +5,18 @@ use native.Mathlib.Nat.{le_trans}
 use native.Mathlib.Omega.{arith}
 use mathlib.Core.Bool.{Bool, true, false, cond}
 use mathlib.Core.List.{List, [], ◌∷◌, ◌++◌}
-use lib.ListN.{length, get_or, length-append}
+use lib.ListN.{length, get_or, take, length-append}
 use Rattle.model.specs.File.{line, Stands}
 use Rattle.model.proofs.Sufficient.{largest-at}
 use Rattle.model.proofs.Pieces.{none-over-nil, stands-within, part_at, join-at, part, join, Fitting, fitting, fitting-nil, fitting-cons, line-length, same_line}
-use Rattle.file_lines.specs.Standing.{over}
+use Rattle.file_lines.proofs.Fills.{over-front}
 use Rattle.std.proofs.Common.{Option, Some, None, lit≤}
 use Rattle.sheet_head.specs.declared.Listed.{Listed}
 use Rattle.sheet_head.specs.declared.Call.{Call}
 use Rattle.sheet_head.specs.declared.Call.TheVariants.{Weigh, StartPlan, TwoOpt, Rebuild, Exhaustive, Pruned, Solve, Arrive, Cancel, View, MoveStop, Roadworks}
 use Rattle.sheet_head.specs.Numbered.{number_of_call}
 use Rattle.sheet_head.specs.Form.{last_call, most_numbers, has_given, least_given, most_given, has_plan, line_if, head_of, ListFor, longest_plan}
-use Rattle.sheet_head.specs.Reading.{Listing, ListAt, ListIf, Fits, Laid, CallAt, HeadOf, HeadAt}
+use Rattle.sheet_head.specs.Reading.{Listing, ListAt, ListIf, Fits, Laid, CallAt, HeadOf, HeadFound, HeadAt}
 use Rattle.sheet_head.proofs.Lists.{same-list}
 
 -- ---- a line that a call has, or has not
@@ -55,7 +55,7 @@ module _ (bytes : List ℕ) (at least most : ℕ) where
         end = ap (λ x. x.end) (sym c) ∙ omega arith;
       }
 
-  -- its numbers fit into a list, and are laid over its front
+  -- its numbers fit into a list, and are written to its front
   taken-fits : (b : Bool) (ns list : List ℕ) (count : ℕ) → ListFor b least most [] ns → Stands bytes at (line_if b ns) → count ≡ length ns → most ≤ length list
       → Fits bytes at count list
   taken-fits true ns list count f s c l =
@@ -65,11 +65,11 @@ module _ (bytes : List ℕ) (at least most : ℕ) where
       record { there = λ k. absurd (omega arith); room = omega arith }
 
   taken-laid : (b : Bool) (ns old new : List ℕ) (count : ℕ) → ListFor b least most [] ns → Stands bytes at (line_if b ns) → count ≡ length ns
-      → Laid bytes at count old new → new ≡ over ns old
-  taken-laid true ns old new count f s c w = w ns (sym c) f.2 (λ _. s)
+      → Laid bytes at count old new → take count new ≡ ns
+  taken-laid true ns old new count f s c w = (λ i. take (c i) (w ns (sym c) f.2 (λ _. s) i)) ∙ over-front ns old
   taken-laid false ns old new count f s c w =
       let z : count ≡ 0 = c ∙ ap length f in
-      w ns (sym c) (rw f none-over-nil) (λ k. absurd (omega arith))
+      (λ i. take (c i) (w ns (sym c) (rw f none-over-nil) (λ k. absurd (omega arith)) i)) ∙ over-front ns old
 
   -- or none such stands there
   pub missing : (b : Bool) (a : Option Listed) → ListIf b bytes at least most a → a ≡ None
@@ -153,12 +153,8 @@ module _ (bytes : List ℕ) (at : ℕ) where
   some MoveStop = lit≤ tt
   some Roadworks = lit≤ tt
 
-  pub no_number : (call : ℕ) (given plan : List ℕ) → CallAt bytes at call → call < 1 → HeadAt bytes at given plan given plan None
-  no_number call given plan c z = (
-    refl,
-    refl,
-    λ n stops numbers known h. c.none (omega arith) n h.first h.last (head-parts n stops numbers h.last h.stand).number,
-  )
+  pub no_number : (call : ℕ) → CallAt bytes at call → call < 1 → HeadAt bytes at None
+  no_number call c z n stops numbers known h = c.none (omega arith) n h.first h.last (head-parts n stops numbers h.last h.stand).number
 
   module _ (who : Call) (c : CallAt bytes at (number_of_call who)) where
     pub number-within : at + 15 ≤ length bytes
@@ -172,55 +168,46 @@ module _ (bytes : List ℕ) (at : ℕ) where
         subst (λ x. HeadOf bytes at x stops numbers known)
         (same-call (number_of_call who) n c.last h.last (c.there (some who)) (head-parts n stops numbers h.last h.stand).number) h
 
-    module _ (given plan : List ℕ) (a : Option Listed) (read : ListIf (has_given (number_of_call who)) bytes (at + 15) (least_given (number_of_call who)) (most_given (number_of_call who)) a) where
-      pub no-given : a ≡ None → HeadAt bytes at given plan given plan None
-      no-given e = (
-        refl,
-        refl,
-        λ n stops numbers known h.
-            let k = of-call n stops numbers known h in
-            missing bytes (at + 15) (least_given (number_of_call who)) (most_given (number_of_call who)) (has_given (number_of_call who)) a read e [] stops k.stops
-            (head-parts (number_of_call who) stops numbers c.last k.stand).stops,
-      )
+    module _ (a : Option Listed) (read : ListIf (has_given (number_of_call who)) bytes (at + 15) (least_given (number_of_call who)) (most_given (number_of_call who)) a) where
+      pub no-given : a ≡ None → HeadAt bytes at None
+      no-given e n stops numbers known h =
+          let k = of-call n stops numbers known h in
+          missing bytes (at + 15) (least_given (number_of_call who)) (most_given (number_of_call who)) (has_given (number_of_call who)) a read e [] stops k.stops
+          (head-parts (number_of_call who) stops numbers c.last k.stand).stops
 
       module _ (g : Listed) (e : a ≡ Some g) where
         stops_taken : Taken bytes (at + 15) (least_given (number_of_call who)) (most_given (number_of_call who)) (has_given (number_of_call who)) g
         stops_taken = taken bytes (at + 15) (least_given (number_of_call who)) (most_given (number_of_call who)) (has_given (number_of_call who)) a read g e
 
-        pub stops-fit : 8 ≤ length given → Fits bytes (at + 15) g.count given
-        stops-fit l =
+        pub stops-fit : (given : List ℕ) → 8 ≤ length given → Fits bytes (at + 15) g.count given
+        stops-fit given l =
             let t = stops_taken in
             taken-fits bytes (at + 15) (least_given (number_of_call who)) (most_given (number_of_call who)) (has_given (number_of_call who)) t.numbers given g.count t.form t.stand t.counted
             (le_trans (few-given (number_of_call who)) l)
 
         module _ (b : Option Listed) (next : ListIf (has_plan (number_of_call who)) bytes g.end 0 longest_plan b) where
-          pub no-plan : b ≡ None → HeadAt bytes at given plan given plan None
-          no-plan f = (
-            refl,
-            refl,
-            λ n stops numbers known h.
-                let t = stops_taken in
-                let k = of-call n stops numbers known h in
-                let p = head-parts (number_of_call who) stops numbers c.last k.stand in
-                let same : stops ≡ t.numbers =
-                same_numbers bytes (at + 15) (least_given (number_of_call who)) (most_given (number_of_call who)) (has_given (number_of_call who)) [] stops t.numbers k.stops t.form p.stops t.stand in
-                let q : plan_at at (number_of_call who) stops ≡ g.end = ap (plan_at at (number_of_call who)) same ∙ sym t.end in
-                missing bytes g.end 0 longest_plan (has_plan (number_of_call who)) b next f known numbers k.numbers
-                (subst (λ x. Stands bytes x (line_if (has_plan (number_of_call who)) numbers)) q p.numbers),
-          )
+          pub no-plan : b ≡ None → HeadAt bytes at None
+          no-plan f n stops numbers known h =
+              let t = stops_taken in
+              let k = of-call n stops numbers known h in
+              let p = head-parts (number_of_call who) stops numbers c.last k.stand in
+              let same : stops ≡ t.numbers =
+              same_numbers bytes (at + 15) (least_given (number_of_call who)) (most_given (number_of_call who)) (has_given (number_of_call who)) [] stops t.numbers k.stops t.form p.stops t.stand in
+              let q : plan_at at (number_of_call who) stops ≡ g.end = ap (plan_at at (number_of_call who)) same ∙ sym t.end in
+              missing bytes g.end 0 longest_plan (has_plan (number_of_call who)) b next f known numbers k.numbers
+              (subst (λ x. Stands bytes x (line_if (has_plan (number_of_call who)) numbers)) q p.numbers)
 
           module _ (l : Listed) (f : b ≡ Some l) where
             numbers_taken : Taken bytes g.end 0 longest_plan (has_plan (number_of_call who)) l
             numbers_taken = taken bytes g.end 0 longest_plan (has_plan (number_of_call who)) b next l f
 
-            pub numbers_fit : longest_plan ≤ length plan → Fits bytes g.end l.count plan
-            numbers_fit k =
+            pub numbers_fit : (plan : List ℕ) → longest_plan ≤ length plan → Fits bytes g.end l.count plan
+            numbers_fit plan k =
                 let u = numbers_taken in
                 taken-fits bytes g.end 0 longest_plan (has_plan (number_of_call who)) u.numbers plan l.count u.form u.stand u.counted k
 
-            pub head_read : (given' plan' : List ℕ) → Laid bytes (at + 15) g.count given given' → Laid bytes g.end l.count plan plan'
-                → HeadAt bytes at given plan given' plan' (Some (record { call = who; given = g.count; plan = l.count; end = l.end }))
-            head_read given' plan' v w =
+            head_taken : HeadFound bytes at (number_of_call who) l.end stops_taken.numbers numbers_taken.numbers
+            head_taken =
                 let t = stops_taken in
                 let u = numbers_taken in
                 let parts : Parts (number_of_call who) t.numbers u.numbers =
@@ -230,8 +217,6 @@ module _ (bytes : List ℕ) (at : ℕ) where
                   numbers = subst (λ x. Stands bytes x (line_if (has_plan (number_of_call who)) u.numbers)) t.end u.stand;
                 } in
                 record {
-                  stops = t.numbers;
-                  numbers = u.numbers;
                   lines = record {
                     first = some who;
                     last = c.last;
@@ -239,13 +224,20 @@ module _ (bytes : List ℕ) (at : ℕ) where
                     numbers = u.form;
                     stand = head-stands (number_of_call who) t.numbers u.numbers c.last parts;
                   };
-                  end = u.end ∙ ap (λ x. x + length (line_if (has_plan (number_of_call who)) u.numbers)) t.end
+                  ends = u.end ∙ ap (λ x. x + length (line_if (has_plan (number_of_call who)) u.numbers)) t.end
                       ∙ sym (head-length (number_of_call who) t.numbers u.numbers c.last);
-                  count_given = t.counted;
-                  count_plan = u.counted;
-                  same_given = taken-laid bytes (at + 15) (least_given (number_of_call who)) (most_given (number_of_call who)) (has_given (number_of_call who)) t.numbers given given' g.count t.form t.stand t.counted v;
-                  same_plan = taken-laid bytes g.end 0 longest_plan (has_plan (number_of_call who)) u.numbers plan plan' l.count u.form u.stand u.counted w;
                 }
+
+            pub head_read : (given given' plan plan' : List ℕ) → Laid bytes (at + 15) g.count given given' → Laid bytes g.end l.count plan plan'
+                → HeadFound bytes at (number_of_call who) l.end (take g.count given') (take l.count plan')
+            head_read given given' plan plan' v w =
+                let t = stops_taken in
+                let u = numbers_taken in
+                let stops : take g.count given' ≡ t.numbers =
+                taken-laid bytes (at + 15) (least_given (number_of_call who)) (most_given (number_of_call who)) (has_given (number_of_call who)) t.numbers given given' g.count t.form t.stand t.counted v in
+                let numbers : take l.count plan' ≡ u.numbers =
+                taken-laid bytes g.end 0 longest_plan (has_plan (number_of_call who)) u.numbers plan plan' l.count u.form u.stand u.counted w in
+                rw (stops, numbers) head_taken
 
   -- two heads that stand there are the same, but for a plan that has no line
   pub record SameHead (n : ℕ) (s p known : List ℕ) (m : ℕ) (t q known_too : List ℕ) : Type 0 where

@@ -1,9 +1,9 @@
 -- What is read of a sheet before its job file.
-use Rattle.std.specs.Prelude.{◌≡◌, ℕ, ◌+◌, ◌*◌, ◌≤◌, Bool, true, false, List, [], ◌∷◌, length, Option, Some, None}
+use Rattle.std.specs.Prelude.{◌≡◌, ℕ, ◌+◌, ◌*◌, ◌≤◌, Bool, true, false, List, [], ◌∷◌, length, take, Option, Some, None}
 use Rattle.model.specs.File.{line, NoneOver, Stands}
 use Rattle.file_lines.specs.Standing.{LineAt, over}
 use Rattle.sheet_head.specs.declared.Listed.{Listed}
-use Rattle.sheet_head.specs.declared.Head.{Head}
+use Rattle.sheet_head.specs.declared.head.Head.{Head}
 use Rattle.sheet_head.specs.Numbered.{number_of_call}
 use Rattle.sheet_head.specs.Form.{last_call, has_given, least_given, most_given, has_plan, head_of, ListFor, longest_plan}
 
@@ -58,24 +58,19 @@ pub record HeadOf (bytes : List ℕ) (at call : ℕ) (given plan known : List �
   pub numbers : ListFor (has_plan call) 0 longest_plan known plan
   pub stand : Stands bytes at (head_of call given plan)
 
--- lists that are lent for them
-pub record Lent (given plan : List ℕ) : Type 0 where
-  pub stops : 8 ≤ length given
-  pub numbers : longest_plan ≤ length plan
+-- the numbers that are given, and those of the plan's line
+abbrev pub given_of : Head → List ℕ
+given_of k = take k.given_count k.given
 
--- they are read: the lists are laid over the front of those that are lent
-pub record HeadHolds (bytes : List ℕ) (at : ℕ) (k : Head) (given plan given' plan' : List ℕ) : Type 0 where
-  pub stops : List ℕ
-  pub numbers : List ℕ
-  pub lines : HeadOf bytes at (number_of_call k.call) stops numbers []
-  pub end : k.end ≡ at + length (head_of (number_of_call k.call) stops numbers)
-  pub count_given : k.given ≡ length stops
-  pub count_plan : k.plan ≡ length numbers
-  pub same_given : given' ≡ over stops given
-  pub same_plan : plan' ≡ over numbers plan
+abbrev pub plan_of : Head → List ℕ
+plan_of k = take k.plan_count k.plan
 
--- so, or none such stand there, and the lists that are lent are as they were
-abbrev pub HeadAt : List ℕ → ℕ → List ℕ → List ℕ → List ℕ → List ℕ → Option Head → Type 0
-HeadAt bytes at given plan given' plan' (Some k) = HeadHolds bytes at k given plan given' plan'
-HeadAt bytes at given plan given' plan' None =
-    (given' ≡ given) × (plan' ≡ plan) × ((call : ℕ) (stops numbers known : List ℕ) → HeadOf bytes at call stops numbers known → ⊥)
+-- they are read, up to an end
+pub record HeadFound (bytes : List ℕ) (at call end : ℕ) (given plan : List ℕ) : Type 0 where
+  pub lines : HeadOf bytes at call given plan []
+  pub ends : end ≡ at + length (head_of call given plan)
+
+-- so, or none such stand there
+abbrev pub HeadAt : List ℕ → ℕ → Option Head → Type 0
+HeadAt bytes at (Some k) = HeadFound bytes at (number_of_call k.call) k.end (given_of k) (plan_of k)
+HeadAt bytes at None = (call : ℕ) (given plan known : List ℕ) → HeadOf bytes at call given plan known → ⊥

@@ -1,10 +1,15 @@
 // What stands before the job file of a call sheet: the call's number, and its lines of given numbers and of a plan.
 #![tactic(auto)]
 
+mod head;
+mod numbers;
+
 ghost use Rattle.std.specs.Prelude.{◌≡◌};
 ghost use Rattle.sheet_head.specs.Form.{has_given, least_given, most_given, has_plan, longest_plan};
 ghost use Rattle.sheet_head.specs.Numbered.{number_of_call, call_number, Numbered};
-ghost use Rattle.sheet_head.specs.Reading.{CountAt, ListAt, ListIf, Fits, Laid, CallAt, Lent, HeadAt};
+ghost use Rattle.sheet_head.specs.Reading.{CountAt, ListAt, ListIf, Fits, Laid, CallAt, HeadAt};
+
+pub use head::Head;
 
 // The public calls, in the order of their numbers on a sheet, which go from 1 to 12.
 #[derive(Clone, Copy, Debug, PartialEq, Eq)]
@@ -63,16 +68,6 @@ fn given_counts(call: Call) -> (usize, usize)
 #[derive(Clone, Copy)]
 pub struct Listed {
     pub count: usize,
-    pub end: usize,
-}
-
-// What stands before the job file of a sheet: the call, how many numbers are given, how many numbers stand in the
-// line of the plan (0 where there is none), and where the job file begins.
-#[derive(Clone, Copy)]
-pub struct Head {
-    pub call: Call,
-    pub given: usize,
-    pub plan: usize,
     pub end: usize,
 }
 
@@ -172,23 +167,25 @@ fn read_call(bytes: &[u8], at: usize) -> Option<Call>
     call_of(file_columns::number_at(bytes, at))
 }
 
-// The lines of a sheet before its job file. They are first checked, and only then do its lists go to the front of those that are
-// lent, so that a refusal leaves these as they were.
-pub fn read_head(bytes: &[u8], at: usize, given: &mut [u32], plan: &mut [u32]) -> Option<Head>
-    requires { Lent given.old plan.old }
-    ensures { HeadAt bytes.now at given.old plan.old given.new plan.new result }
+// The lines of a sheet before its job file.
+pub fn read_head(bytes: &[u8], at: usize) -> Option<Head>
+    ensures { HeadAt bytes.now at result }
 {
     let call = read_call(bytes, at)?;
     let first = at + 15;
     let g = check_given(bytes, first, call)?;
     let second = g.end;
     let p = check_plan(bytes, second, call)?;
-    fill_list(bytes, first, g.count, given);
-    fill_list(bytes, second, p.count, plan);
+    let mut given = [0u32; 8];
+    let mut plan = [0u32; 96];
+    fill_list(bytes, first, g.count, &mut given);
+    fill_list(bytes, second, p.count, &mut plan);
     Some(Head {
         call,
-        given: g.count,
-        plan: p.count,
+        given_count: g.count,
+        given,
+        plan_count: p.count,
+        plan,
         end: p.end,
     })
 }

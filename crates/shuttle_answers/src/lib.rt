@@ -1,79 +1,32 @@
 // What the shuttle program does with the bytes that it reads: it reads the task, runs it and prints the answer, from one slice to another.
 #![tactic(auto)]
 
-ghost use Rattle.std.specs.Prelude.{◌≡◌, ◌≤◌, length, IfSome};
+ghost use Rattle.std.specs.Prelude.{◌≤◌, length, IfSome};
 ghost use Rattle.model.specs.File.{printed_task};
-ghost use Rattle.model.specs.Run.{task_for};
-ghost use Rattle.model.specs.Job.{job_of};
-ghost use Rattle.file_job.specs.Reading.{buffers};
+ghost use Rattle.file_job.specs.Reading.{task_of};
 ghost use Rattle.file_printing.specs.Printing.{Prints};
-ghost use Rattle.shuttle_answers.specs.Answers.{most_for_file, Runnable, Ready, TaskPrints, Answers, Printed};
+ghost use Rattle.shuttle_answers.specs.Answers.{most_for_file, Answers, Printed};
 
-use file_job::Header;
-use model::{Prices, Refusal};
+use file_job::Task;
+use model::Refusal;
 use std::io::{self, Read, Write};
 use std::str;
 
 // Runs a task and prints the answer: how many bytes it is.
-fn run(
-    vehicles: &[u32],
-    stops: &[u32],
-    locations: u32,
-    distances: &[u32],
-    prices: Prices,
-    smoothing: u32,
-    limit: u32,
-    draws: &[u32],
-    plan: &mut [u32],
-    out: &mut [u8],
-) -> usize
-    requires { Runnable vehicles.now stops.now locations distances.now prices plan.old out.old }
-    ensures { Prints out.old out.new result
-        (printed_task (task_for (job_of vehicles.now stops.now locations distances.now prices) smoothing limit draws.now)) }
+fn run(task: &Task, out: &mut [u8]) -> usize
+    requires { most_for_file ≤ length out.old }
+    ensures { Prints out.old out.new result (printed_task (task_of task.now)) }
 {
-    match planner::solve(
-        vehicles, stops, locations, distances, prices, smoothing, limit, draws, plan,
-    ) {
-        Ok(t) => {
-            let v = vehicles.len() / 2;
-            file_printing::print_run(t, plan, v, stops.len(), out)
-        }
+    let job = task.job();
+    let settings = task.settings();
+    let v = job.network.vehicles.len() / 2;
+    let n = job.network.stops.len();
+    let mut numbers = [0u32; 80];
+    let form = &mut numbers[..v + n];
+    match planner::solve(&job, &settings, form) {
+        Ok(totals) => file_printing::print_run(totals, &solution::hold(v, n, form), out),
         Err(refusal) => file_printing::print_refusal(u32::from(refusal), out),
     }
-}
-
-// The same for a task whose lists stand at the front of those that are lent.
-fn run_task(
-    h: Header,
-    vehicles: &[u32],
-    stops: &[u32],
-    distances: &[u32],
-    draws: &[u32],
-    plan: &mut [u32],
-    out: &mut [u8],
-) -> usize
-    requires { Ready h (buffers vehicles.now stops.now distances.now draws.now) plan.old out.old }
-    ensures { TaskPrints h (buffers vehicles.now stops.now distances.now draws.now)
-        out.old out.new result }
-{
-    let ends = h.vehicles * 2;
-    let n = h.stops;
-    let l = h.locations as usize;
-    let entries = l * l;
-    let d = h.draws;
-    let m = h.vehicles + n;
-    run(
-        &vehicles[0..ends],
-        &stops[0..n],
-        h.locations,
-        &distances[0..entries],
-        h.prices,
-        h.smoothing,
-        h.limit,
-        &draws[0..d],
-        &mut plan[0..m],
-        out,
-    )
 }
 
 // What is printed for the bytes of a file: how many bytes it is.
@@ -81,16 +34,10 @@ fn answer(bytes: &[u8], out: &mut [u8]) -> usize
     requires { most_for_file ≤ length out.old }
     ensures { Answers bytes.now out.old out.new result }
 {
-    let mut vehicles = [0u32; 32];
-    let mut stops = [0u32; 64];
-    let mut distances = [0u32; 6400];
-    let mut draws = [0u32; 1024];
-    let Ok(h) = file_job::read_file(bytes, &mut vehicles, &mut stops, &mut distances, &mut draws)
-    else {
+    let Ok(task) = file_job::read_file(bytes) else {
         return file_printing::print_refusal(u32::from(Refusal::File), out);
     };
-    let mut plan = [0u32; 80];
-    run_task(h, &vehicles, &stops, &distances, &draws, &mut plan, out)
+    run(&task, out)
 }
 
 // Tells on standard error what failed, by its name where that is text.

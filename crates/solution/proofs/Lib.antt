@@ -2,3 +2,4 @@ pub mod Walks
 pub mod Used
 pub mod Sets
 pub mod Locate
+pub mod Holding

@@ -56,18 +56,9 @@ module _ (x : ℕ) (xs : List ℕ) (i : ℕ) where
   pub none_left : i ≡ length xs → position x (drop i xs) ≡ 0
   none_left e = rw (from_end xs i e)
 
-  pub position-end : i ≡ length xs → position x xs ≡ i + position x (drop i xs) → i ≡ position x xs
-  position-end e p = omega (arith, none_left e)
-
   module _ (h : i < length xs) where
     pub at_once : get_or xs i 0 ≡ x → position x (drop i xs) ≡ 0
     at_once e = rw (from-here xs i h, eq-eqb x (get_or xs i 0) (sym e))
 
     pub later : (get_or xs i 0 ≡ x → ⊥) → position x (drop i xs) ≡ 1 + position x (drop (i + 1) xs)
     later f = rw (from-here xs i h, ne_eqb x (get_or xs i 0) (λ e. f (sym e))) (omega arith)
-
-    pub position_here : get_or xs i 0 ≡ x → position x xs ≡ i + position x (drop i xs) → i ≡ position x xs
-    position_here e p = omega (arith, at_once e)
-
-    pub position-more : (get_or xs i 0 ≡ x → ⊥) → position x xs ≡ i + position x (drop i xs) → position x xs ≡ i + 1 + position x (drop (i + 1) xs)
-    position-more f p = omega (arith, later f)

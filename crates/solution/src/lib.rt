@@ -1,11 +1,17 @@
 // Plans: reading the routes of the plan form, and finding a stop.
 #![tactic(auto)]
 
+mod held;
+mod plan;
+
 ghost use Rattle.std.specs.Prelude.{◌≡◌, ℕ, ◌+◌, ◌≤◌, ◌<◌, length, take};
 ghost use Rattle.model.specs.Lists.{sum, concat, lower, position, count, Once};
 ghost use Rattle.solution.specs.Sets.{SetOf};
 ghost use Rattle.solution.specs.Places.{place_of};
 ghost use Rattle.model.specs.Plan.{decode, route_of, Lent, Sizes};
+
+pub use held::hold;
+pub use plan::Plan;
 
 // The first v lengths added up. A length may be any number, and 16 of them do not wrap.
 pub fn sum_lengths(plan: &[u32], v: usize) -> usize
@@ -31,18 +37,6 @@ pub fn offset(plan: &[u32], v: usize, k: usize) -> usize
     v + sum_lengths(plan, k)
 }
 
-// The stops of route k, a part of the plan.
-pub fn route<'a>(plan: &'a [u32], v: usize, n: usize, k: usize) -> &'a [u32]
-    requires sizes { Sizes v n }
-    requires lent { Lent v n plan.now }
-    requires k_lt_v { k < v }
-    ensures { result.now ≡ route_of (decode v plan.now) k }
-{
-    let start = offset(plan, v, k);
-    let end = start + plan[k] as usize;
-    &plan[start..end]
-}
-
 // The set of the stops of a list in which none stands twice.
 fn set_of(part: &[u32]) -> u64
     requires { ((s : ℕ) → 1 ≤ count s part.now → s < 64) × Once part.now }
@@ -53,16 +47,6 @@ fn set_of(part: &[u32]) -> u64
         set = stop_set::with(set, *stop);
     }
     set
-}
-
-// The set of the stops that are on routes.
-pub fn placed_set(plan: &[u32], v: usize, n: usize) -> u64
-    requires sizes { Sizes v n }
-    requires lent { Lent v n plan.now }
-    ensures { SetOf (concat (decode v plan.now)) result }
-{
-    let end = offset(plan, v, v);
-    set_of(&plan[v..end])
 }
 
 // The first position of a stop, or the length where there is none. It goes from the end to the front and does not leave early: so the
@@ -85,24 +69,4 @@ pub fn position(part: &[u32], stop: u32) -> usize
 pub struct Place {
     pub vehicle: usize,
     pub position: usize,
-}
-
-// Where a stop is in a plan: its position in the whole stops area, less the lengths of the routes before its own. Unused places come after all routes.
-pub fn find(plan: &[u32], v: usize, n: usize, stop: u32) -> Option<Place>
-    requires sizes { Sizes v n }
-    requires lent { Lent v n plan.now }
-    ensures { result ≡ place_of stop (decode v plan.now) }
-{
-    let mut at = position(&plan[v..], stop);
-    for k in 0..v {
-        let size = plan[k] as usize;
-        if at < size {
-            return Some(Place {
-                vehicle: k,
-                position: at,
-            });
-        }
-        at -= size;
-    }
-    None
 }

@@ -1,8 +1,7 @@
 -- A pair of stops, by where the two are.
-use mathlib.Core.Path.{◌≡◌, refl, sym, ap, ◌∙◌}
+use mathlib.Core.Path.{◌≡◌, refl, sym, ap, ◌∙◌, subst}
 use mathlib.Core.Logic.{◌≢◌}
 use mathlib.Core.Bool.{Bool, true, false, cond, ◌&&◌}
-use mathlib.Core.List.{List}
 use Prim.Native.Nat.{ℕ, ◌<◌}
 use native.Mathlib.Omega.{arith}
 use lib.Dec.{eqb}
@@ -10,28 +9,29 @@ use lib.ListN.{length}
 use borrow.Author.Tests.{eq-eqb, ne_eqb}
 use Rattle.model.specs.Lists.{member, position}
 use Rattle.model.specs.Job.{Job}
-use Rattle.model.specs.Plan.{Plan, route_of, encode, decode, vehicle_of, is_placed, Lent}
-use Rattle.model.specs.Legs.{Fits}
+use Rattle.model.specs.Plan.{route_of, encode, vehicle_of, is_placed}
+use Rattle.model.specs.Plan as form
 use Rattle.model.specs.TwoOpt.{intra, inter, two_opt_on, two_opt}
-use Rattle.model.specs.declared.Prices.{Prices}
 use Rattle.model.proofs.Locate.{vehicle-lt, vehicle-has}
-use Rattle.model.proofs.PlanForm.{lent_length, decode-encode}
-use Rattle.model.proofs.Moves.{Moved}
+use Rattle.model.proofs.PlanForm.{lent_length}
+use Rattle.distance.specs.declared.tariff.Tariff.{Tariff}
+use Rattle.solution.specs.declared.plan.Plan.{Plan}
+use Rattle.solution.specs.Held.{numbers_of, routes, Becomes}
 use Rattle.solution.specs.Places.{place_of}
 use Rattle.solution.specs.declared.Place.{Place}
 use Rattle.std.specs.Prelude.{Some, None}
-use Rattle.delivery.specs.Costs.{Ready}
+use Rattle.delivery.specs.Held.{IsJobOf}
 use Rattle.two_opt_inter.specs.Move.{OnTwoRoutes}
 use Rattle.two_opt_intra.specs.Reordered.{OneRoute}
 
 -- ---- where a stop is
 
 -- stop s is on the route of vehicle k
-pub record On (P : Plan) (s k : ℕ) : Type 0 where
+pub record On (P : form.Plan) (s k : ℕ) : Type 0 where
   pub placed : is_placed s P ≡ true
   pub vehicle : k ≡ vehicle_of s P
 
-module _ (s : ℕ) (P : Plan) where
+module _ (s : ℕ) (P : form.Plan) where
   -- where it is, if it is on a route
   abbrev there : Place
   there = record { vehicle = vehicle_of s P; position = position s (route_of P (vehicle_of s P)) }
@@ -50,7 +50,7 @@ module _ (s : ℕ) (P : Plan) where
       go true on f = let z : ◌≡◌ {A = ℕ} 0 1 = cc in absurd (omega arith)
       go false off f = off
 
-module _ {P : Plan} {s k : ℕ} (O : On P s k) where
+module _ {P : form.Plan} {s k : ℕ} (O : On P s k) where
   pub on-lt : k < length P
   on-lt = rw O.vehicle (vehicle-lt s P O.placed)
 
@@ -59,7 +59,7 @@ module _ {P : Plan} {s k : ℕ} (O : On P s k) where
 
 -- ---- what the pair is then
 
-module _ (J : Job) (P : Plan) (s u : ℕ) where
+module _ (J : Job) (P : form.Plan) (s u : ℕ) where
   pub first-missing : is_placed s P ≡ false → two_opt J P s u ≡ P
   unfolding two_opt
   first-missing e = rw e
@@ -85,33 +85,30 @@ module _ (J : Job) (P : Plan) (s u : ℕ) where
         let other : vehicle_of s P ≢ vehicle_of u P = λ e. ne (A.vehicle ∙ (e ∙ sym B.vehicle)) in
         rw (A.placed, B.placed, ne_eqb (vehicle_of s P) (vehicle_of u P) other, A.vehicle, B.vehicle)
 
--- ---- a plan that is lent
+-- ---- a plan that is held
 
--- the plan that was written is had back
-pub moved-decode : (v n : ℕ) (xs ys : List ℕ) (Q : Plan) → Lent v n xs → Moved (decode v xs) Q → ys ≡ encode n Q → decode v ys ≡ Q
-moved-decode v n xs ys Q p m e = ap (decode v) e ∙ decode-encode n Q v (m.routes ∙ lent_length v n xs p)
+module _ (p : Plan) {s u a b : ℕ} (A : On (routes p) s a) (B : On (routes p) u b) where
+  first-lt : a < p.v
+  first-lt = omega (arith, on-lt A, lent_length p.v p.n (numbers_of p) p.lent)
 
-module _ {t : List ℕ} {v n : ℕ} {p : Prices} {xs : List ℕ} (R : Ready t v n p xs) {s u a b : ℕ} (A : On (decode v xs) s a) (B : On (decode v xs) u b) where
-  first-lt : a < v
-  first-lt = omega (arith, on-lt A, lent_length v n xs R.plan)
+  second_lt : b < p.v
+  second_lt = omega (arith, on-lt B, lent_length p.v p.n (numbers_of p) p.lent)
 
-  second_lt : b < v
-  second_lt = omega (arith, on-lt B, lent_length v n xs R.plan)
-
-  pub one-route : a ≡ b → s ≢ u → OneRoute v xs a s u
+  pub one-route : a ≡ b → s ≢ u → OneRoute p a s u
   one-route e ne = record { vehicle = first-lt; first = on-has A; second = rw e (on-has B); apart = ne }
 
-  pub two-routes : a ≢ b → OnTwoRoutes v xs a s b u
-  two-routes ne = record { first_vehicle = first-lt; second_vehicle = second_lt; apart = ne; first = on-has A; second = on-has B }
+  pub two-routes : a ≢ b → OnTwoRoutes p a s b u
+  two-routes ne =
+      record { vehicles = record { first = first-lt; second = second_lt; apart = ne }; first = on-has A; second = on-has B }
 
--- what a step leaves: for every job that fits the job's own step, and a plan that is lent
-abbrev pub Left : List ℕ → ℕ → ℕ → Prices → List ℕ → (Job → Plan) → Type 0
-Left t v n p ys step = ((J : Job) → Fits J t v n p → ys ≡ encode n (step J)) × Lent v n ys
+-- what a step leaves: for every job that fits, the job's own step
+abbrev pub Left : Tariff → Plan → Plan → (Job → form.Plan) → Type 0
+Left t p q step = (J : Job) → IsJobOf J t p → Becomes p q (step J)
 
-module _ (t : List ℕ) (v n : ℕ) (p : Prices) (xs : List ℕ) (s u : ℕ) where
-  pub the-pair : (ys : List ℕ) (step : Job → Plan) → ((J : Job) → two_opt J (decode v xs) s u ≡ step J) → Left t v n p ys step
-      → Left t v n p ys (λ J. two_opt J (decode v xs) s u)
-  the-pair ys step same l = (λ J F. l.0 J F ∙ ap (encode n) (sym (same J)), l.1)
+module _ (t : Tariff) (p : Plan) (s u : ℕ) where
+  pub the-pair : (q : Plan) (step : Job → form.Plan) → ((J : Job) → two_opt J (routes p) s u ≡ step J) → Left t p q step
+      → Left t p q (λ J. two_opt J (routes p) s u)
+  the-pair q step same l J F = subst (λ (P : form.Plan). Becomes p q P) (sym (same J)) (l J F)
 
-  pub unchanged : Lent v n xs → ((J : Job) → two_opt J (decode v xs) s u ≡ decode v xs) → Left t v n p xs (λ J. two_opt J (decode v xs) s u)
-  unchanged l same = the-pair xs (λ J. decode v xs) same (λ J F. l.form, l)
+  pub unchanged : ((J : Job) → two_opt J (routes p) s u ≡ routes p) → Left t p p (λ J. two_opt J (routes p) s u)
+  unchanged same J F = record { vehicles = refl; stops = refl; form = p.lent.form ∙ ap (encode p.n) (sym (same J)) }

@@ -4,33 +4,32 @@
 ghost use Rattle.std.specs.Prelude.{◌≡◌, ℕ, ◌<◌, length, take};
 ghost use Rattle.model.specs.Lists.{pairs, Once};
 ghost use Rattle.model.specs.Job.{Job};
-ghost use Rattle.model.specs.Plan.{encode, decode, Lent};
-ghost use Rattle.model.specs.Legs.{Fits};
 ghost use Rattle.model.specs.Nearest.{neighbours};
 ghost use Rattle.model.specs.TwoOpt.{two_opt, two_opt_all, two_opt_pass};
-ghost use Rattle.delivery.specs.Costs.{Ready};
+ghost use Rattle.solution.specs.Held.{routes, Becomes};
+ghost use Rattle.delivery.specs.Held.{IsJobOf};
 ghost use Rattle.two_opt.specs.Pairs.{pairs_of};
 
-use model::Prices;
+use distance::Tariff;
+use solution::Plan;
 use two_opt_inter::Visit;
 
 // The pair s, t: no change where one of them is unplaced, else the move on their route or on their two routes, that of s first.
-pub fn pair(legs: &[u32], v: usize, n: usize, prices: Prices, plan: &mut [u32], s: u32, t: u32)
-    requires ready { Ready legs.now v n prices plan.old }
-    requires fact { s ≡ t → ⊥ }
-    ensures plan_after { (J : Job) → Fits J legs.now v n prices → plan.new ≡ encode n (two_opt J (decode v plan.old) s t) }
-    ensures lent { Lent v n plan.new }
+pub fn pair(tariff: &Tariff, plan: &mut Plan, s: u32, t: u32)
+    requires { s ≡ t → ⊥ }
+    ensures plan_after { (J : Job) → IsJobOf J tariff.now plan.old → Becomes plan.old plan.new (two_opt J (routes plan.old) s t) }
+    ensures sizes { (plan.new.v ≡ plan.old.v) × (plan.new.n ≡ plan.old.n) }
 {
-    let Some(x) = solution::find(plan, v, n, s) else {
+    let Some(x) = plan.find(s) else {
         return;
     };
-    let Some(y) = solution::find(plan, v, n, t) else {
+    let Some(y) = plan.find(t) else {
         return;
     };
     let a = x.vehicle;
     let b = y.vehicle;
     if a == b {
-        two_opt_intra::intra(legs, v, n, prices, plan, a, s, t);
+        two_opt_intra::intra(tariff, plan, a, s, t);
     } else {
         let first = Visit {
             vehicle: a,
@@ -40,51 +39,44 @@ pub fn pair(legs: &[u32], v: usize, n: usize, prices: Prices, plan: &mut [u32], 
             vehicle: b,
             stop: t,
         };
-        two_opt_inter::inter(legs, v, n, prices, plan, first, second);
+        two_opt_inter::inter(tariff, plan, first, second);
     }
 }
 
 // The pairs of the i-th stop of a list with each later one.
-fn pairs_of(
-    legs: &[u32],
-    v: usize,
-    n: usize,
-    prices: Prices,
-    plan: &mut [u32],
-    stops: &[u32],
-    i: usize,
-)
-    requires ready { Ready legs.now v n prices plan.old }
-    requires once { Once stops.now × (i < length stops.now) }
-    ensures plan_after { (J : Job) → Fits J legs.now v n prices → plan.new ≡ encode n (two_opt_all J (decode v plan.old) (pairs_of i stops.now)) }
-    ensures lent { Lent v n plan.new }
+fn pairs_of(tariff: &Tariff, plan: &mut Plan, stops: &[u32], i: usize)
+    requires { Once stops.now × (i < length stops.now) }
+    ensures plan_after { (J : Job) → IsJobOf J tariff.now plan.old
+        → Becomes plan.old plan.new (two_opt_all J (routes plan.old) (pairs_of i stops.now)) }
+    ensures sizes { (plan.new.v ≡ plan.old.v) × (plan.new.n ≡ plan.old.n) }
 {
     let s = stops[i];
     for j in i + 1..stops.len() {
-        pair(legs, v, n, prices, plan, s, stops[j]);
+        pair(tariff, plan, s, stops[j]);
     }
 }
 
 // All pairs of a list, in order of position.
-fn all_pairs(legs: &[u32], v: usize, n: usize, prices: Prices, plan: &mut [u32], stops: &[u32])
-    requires ready { Ready legs.now v n prices plan.old }
-    requires once { Once stops.now }
-    ensures plan_after { (J : Job) → Fits J legs.now v n prices → plan.new ≡ encode n (two_opt_all J (decode v plan.old) (pairs stops.now)) }
-    ensures lent { Lent v n plan.new }
+fn all_pairs(tariff: &Tariff, plan: &mut Plan, stops: &[u32])
+    requires { Once stops.now }
+    ensures plan_after { (J : Job) → IsJobOf J tariff.now plan.old
+        → Becomes plan.old plan.new (two_opt_all J (routes plan.old) (pairs stops.now)) }
+    ensures sizes { (plan.new.v ≡ plan.old.v) × (plan.new.n ≡ plan.old.n) }
 {
     for i in 0..stops.len() {
-        pairs_of(legs, v, n, prices, plan, stops, i);
+        pairs_of(tariff, plan, stops, i);
     }
 }
 
 // The two-opt pass around a stop x, of which S(x) is given: all pairs of its first ten. Of any other list too it takes the pairs of the first ten.
-pub fn pass(legs: &[u32], v: usize, n: usize, prices: Prices, plan: &mut [u32], near: &[u32])
-    requires ready { Ready legs.now v n prices plan.old }
-    requires once { Once near.now }
-    ensures plan_after { (J : Job) → Fits J legs.now v n prices → (x : ℕ) → near.now ≡ neighbours J x → plan.new ≡ encode n (two_opt_pass J (decode v plan.old) x) }
-    ensures lent { Lent v n plan.new }
-    ensures plan_after_2 { (J : Job) → Fits J legs.now v n prices → plan.new ≡ encode n (two_opt_all J (decode v plan.old) (pairs (take 10 near.now))) }
+pub fn pass(tariff: &Tariff, plan: &mut Plan, near: &[u32])
+    requires { Once near.now }
+    ensures plan_after { (J : Job) → IsJobOf J tariff.now plan.old → (x : ℕ) → near.now ≡ neighbours J x
+        → Becomes plan.old plan.new (two_opt_pass J (routes plan.old) x) }
+    ensures sizes { (plan.new.v ≡ plan.old.v) × (plan.new.n ≡ plan.old.n) }
+    ensures plan_after_2 { (J : Job) → IsJobOf J tariff.now plan.old
+        → Becomes plan.old plan.new (two_opt_all J (routes plan.old) (pairs (take 10 near.now))) }
 {
     let few = near.len().min(10);
-    all_pairs(legs, v, n, prices, plan, &near[..few]);
+    all_pairs(tariff, plan, &near[..few]);
 }

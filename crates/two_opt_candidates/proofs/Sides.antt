@@ -10,6 +10,7 @@ use lib.ListN.{length, take, drop, take-append-drop, length-take, length-drop}
 use Rattle.model.specs.declared.Prices.{Prices}
 use Rattle.model.specs.Lists.{up_from, member, position, Once}
 use Rattle.model.specs.Plan.{Route}
+use Rattle.model.specs.Legs.{LegTable}
 use Rattle.model.specs.Cost.{price}
 use Rattle.model.specs.TwoOpt.{turned, exchanged}
 use Rattle.model.proofs.Lists.{position-lt}
@@ -117,19 +118,17 @@ module _ (t : List ℕ) (p : Prices) (a : ℕ) (ra : Route) (s b : ℕ) (rb : Ro
 
 -- ---- all four ways to turn two routes
 
-module _ {t : List ℕ} {p : Prices} {a : ℕ} {ra : Route} {s b : ℕ} {rb : Route} {u : ℕ} (R : Routes t p a ra s b rb u) where
+module _ {a : ℕ} {ra : Route} {s b : ℕ} {rb : Route} {u : ℕ} (R : Routes a ra s b rb u) where
   pub first-there : (i : ℕ) → i ≡ position s ra → i < length ra
   first-there i e = rw e (position-lt s ra R.first_stop)
 
   pub second-there : (j : ℕ) → j ≡ position u rb → j < length rb
   second-there j e = rw e (position-lt u rb R.second_stop)
 
-  module _ {i j : ℕ} (ei : i ≡ position s ra) (ej : j ≡ position u rb) {c d : Cuts} (C : CutBy t a b ra i c) (D : CutBy t a b rb j d) where
-    pub two-routes : TwoCutRoutes t p c d
-    two-routes x y =
+  module _ (t : List ℕ) {i j : ℕ} (ei : i ≡ position s ra) (ej : j ≡ position u rb) {c d : Cuts} (C : CutBy t a b ra i c) (D : CutBy t a b rb j d) where
+    pub two-routes : LegTable t → TwoCutRoutes c d
+    two-routes T x y =
         record {
-          table = R.table;
-          prices = R.prices;
           m = length ra;
           n = length rb;
           few = R.few;
@@ -146,17 +145,17 @@ module _ {t : List ℕ} {p : Prices} {a : ℕ} {ra : Route} {s b : ℕ} {rb : Ro
                   heads = length (take l r);
                   tails = length (drop l r);
                   few = omega (arith, length-take l r, length-drop l r);
-                  head = head-short l R.table R.first R.second D F;
-                  tail = tail-short l R.table R.first R.second D F;
+                  head = head-short l T R.first R.second D F;
+                  tail = tail-short l T R.first R.second D F;
                 }
 
             go : (x : ℕ) → Sized (length r) (cut_of e x)
             go zero = short k E.0
             go (suc x) = short (k + 1) E.1
 
-    pub all_found : after_all t p c d ≡ least_pair t p a ra s b rb u
+    pub all_found : (p : Prices) → after_all t p c d ≡ least_pair t p a ra s b rb u
     unfolding least_pair after_all after_turns digit_price
-    all_found =
+    all_found p =
         let f : ℕ → ℕ = price_at t p a ra s b rb u in
         let A = plain {s = s} (rw ei at C) in
         let A' = back {s = s} (rw ei at C) R.first_once R.first_stop in

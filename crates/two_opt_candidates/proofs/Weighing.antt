@@ -8,7 +8,7 @@ use lib.Dec.{ltb}
 use lib.Ieee.{Float, binary64, add}
 use Rattle.model.specs.declared.Prices.{Prices}
 use Rattle.model.specs.Whole.{whole, amount, IsWhole}
-use Rattle.model.specs.Legs.{LegTable, Affordable}
+use Rattle.model.specs.Legs.{Affordable}
 use Rattle.model.specs.Cost.{price}
 use Rattle.whole.proofs.Laws.{amount-is}
 use Rattle.delivery.proofs.Laws.{price-small, sum-exact}
@@ -47,44 +47,39 @@ pair_weighs p x y dx dy cx cy A ex ey sx sy wx wy =
 
 -- ---- cuts
 
-module _ {t : List ℕ} {p : Prices} (T : LegTable t) (A : Affordable p) where
-  joins : {h e g u : Ends} (i j k l : ℕ) → i + j ≤ 64 → k + l ≤ 64 → Shorts i h → Shorts j e → Shorts k g → Shorts l u → Joins t p h e g u
-  joins i j k l few more H E G U =
-      record {
-        table = T;
-        prices = A;
-        first_head = H.0.near;
-        first_tail = E.0.near;
-        first = omega (arith, H.0.out, E.0.back);
-        second_head = G.1.near;
-        second_tail = U.1.near;
-        second = omega (arith, G.1.out, U.1.back);
-      }
+joins : {h e g u : Ends} (i j k l : ℕ) → i + j ≤ 64 → k + l ≤ 64 → Shorts i h → Shorts j e → Shorts k g → Shorts l u → Joins h e g u
+joins i j k l few more H E G U =
+    record {
+      first_head = H.0.near;
+      first_tail = E.0.near;
+      first = omega (arith, H.0.out, E.0.back);
+      second_head = G.1.near;
+      second_tail = U.1.near;
+      second = omega (arith, G.1.out, U.1.back);
+    }
 
-module _ {t : List ℕ} {p : Prices} {x y : Cut} (C : TwoCuts t p x y) where
-  pub joins-own : Joins t p x.head x.tail y.head y.tail
+module _ {x y : Cut} (C : TwoCuts x y) where
+  pub joins-own : Joins x.head x.tail y.head y.tail
   joins-own =
       let X = C.first in
       let Y = C.second in
-      joins C.table C.prices X.heads X.tails Y.heads Y.tails (omega (arith, C.few, X.few)) (omega (arith, C.few, Y.few)) X.head X.tail Y.head Y.tail
+      joins X.heads X.tails Y.heads Y.tails (omega (arith, C.few, X.few)) (omega (arith, C.few, Y.few)) X.head X.tail Y.head Y.tail
 
-  pub joins-tails : Joins t p x.head y.tail y.head x.tail
+  pub joins-tails : Joins x.head y.tail y.head x.tail
   joins-tails =
       let X = C.first in
       let Y = C.second in
-      joins C.table C.prices X.heads Y.tails Y.heads X.tails (omega (arith, C.few, X.few, Y.few)) (omega (arith, C.few, X.few, Y.few)) X.head Y.tail Y.head X.tail
+      joins X.heads Y.tails Y.heads X.tails (omega (arith, C.few, X.few, Y.few)) (omega (arith, C.few, X.few, Y.few)) X.head Y.tail Y.head X.tail
 
 -- the second route first
-pub exchange : {t : List ℕ} {p : Prices} {x y : Cut} → TwoCuts t p x y → TwoCuts t p y x
-exchange C = record { table = C.table; prices = C.prices; m = C.n; n = C.m; few = omega (arith, C.few); first = C.second; second = C.first }
+pub exchange : {x y : Cut} → TwoCuts x y → TwoCuts y x
+exchange C = record { m = C.n; n = C.m; few = omega (arith, C.few); first = C.second; second = C.first }
 
 -- the first route reversed
-turn : {t : List ℕ} {p : Prices} {x y : Cut} → TwoCuts t p x y → TwoCuts t p (record { head = x.tail; tail = x.head }) y
+turn : {x y : Cut} → TwoCuts x y → TwoCuts (record { head = x.tail; tail = x.head }) y
 turn C =
     let X = C.first in
     record {
-      table = C.table;
-      prices = C.prices;
       m = C.m;
       n = C.n;
       few = C.few;
@@ -92,18 +87,18 @@ turn C =
       second = C.second;
     }
 
-module _ {t : List ℕ} {p : Prices} {x y : Cuts} (R : TwoCutRoutes t p x y) where
-  pub first-turned : {q : Cuts} → q ≡ reversed_cuts x → TwoCutRoutes t p q y
+module _ {x y : Cuts} (R : TwoCutRoutes x y) where
+  pub first-turned : {q : Cuts} → q ≡ reversed_cuts x → TwoCutRoutes q y
   first-turned e = rw e go
     where
-      go : TwoCutRoutes t p (reversed_cuts x) y
+      go : TwoCutRoutes (reversed_cuts x) y
       go zero j = turn (R 1 j)
       go (suc i) j = turn (R 0 j)
 
-  pub second-turned : {q : Cuts} → q ≡ reversed_cuts y → TwoCutRoutes t p x q
+  pub second-turned : {q : Cuts} → q ≡ reversed_cuts y → TwoCutRoutes x q
   second-turned e = rw e go
     where
-      go : TwoCutRoutes t p x (reversed_cuts y)
+      go : TwoCutRoutes x (reversed_cuts y)
       go i zero = exchange (turn (exchange (R i 1)))
       go i (suc j) = exchange (turn (exchange (R i 0)))
 

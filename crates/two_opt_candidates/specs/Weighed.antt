@@ -4,7 +4,7 @@ use Rattle.model.specs.declared.Prices.{Prices}
 use Rattle.model.specs.Whole.{exact, whole, amount}
 use Rattle.model.specs.Lists.{member, Once}
 use Rattle.model.specs.Plan.{Route}
-use Rattle.model.specs.Legs.{leg_at, LegTable, Affordable}
+use Rattle.model.specs.Legs.{leg_at}
 use Rattle.model.specs.Cost.{price}
 use Rattle.distance.specs.Ways.{Drivable}
 use Rattle.two_opt_cuts.specs.declared.End.{End}
@@ -65,9 +65,7 @@ after_all t p x y =
 -- ---- what is asked
 
 -- a head and a tail on each vehicle that can be joined to a route
-pub record Joins (t : List ℕ) (p : Prices) (h e g u : Ends) : Type 0 where
-  pub table : LegTable t
-  pub prices : Affordable p
+pub record Joins (h e g u : Ends) : Type 0 where
   pub first_head : h.first.joint < 80
   pub first_tail : e.first.joint < 80
   pub first : h.first.out + e.first.back ≤ 12800000
@@ -89,9 +87,7 @@ pub record Sized (m : ℕ) (c : Cut) : Type 0 where
   pub tail : Shorts tails c.tail
 
 -- two cut routes of at most 64 stops together
-pub record TwoCuts (t : List ℕ) (p : Prices) (x y : Cut) : Type 0 where
-  pub table : LegTable t
-  pub prices : Affordable p
+pub record TwoCuts (x y : Cut) : Type 0 where
   pub m : ℕ
   pub n : ℕ
   pub few : m + n ≤ 64
@@ -99,13 +95,11 @@ pub record TwoCuts (t : List ℕ) (p : Prices) (x y : Cut) : Type 0 where
   pub second : Sized n y
 
 -- the same for every choice of the cuts of two routes
-abbrev pub TwoCutRoutes : List ℕ → Prices → Cuts → Cuts → Type 0
-TwoCutRoutes t p x y = (i j : ℕ) → TwoCuts t p (cut_of x i) (cut_of y j)
+abbrev pub TwoCutRoutes : Cuts → Cuts → Type 0
+TwoCutRoutes x y = (i j : ℕ) → TwoCuts (cut_of x i) (cut_of y j)
 
 -- two routes of vehicles a and b, and a stop on each
-pub record Routes (legs : List ℕ) (p : Prices) (a : ℕ) (ra : Route) (s b : ℕ) (rb : Route) (t : ℕ) : Type 0 where
-  pub table : LegTable legs
-  pub prices : Affordable p
+pub record Routes (a : ℕ) (ra : Route) (s b : ℕ) (rb : Route) (t : ℕ) : Type 0 where
   pub first : a < 16
   pub first_row : Drivable ra
   pub first_once : Once ra

@@ -5,11 +5,10 @@
 
 ghost use Rattle.std.specs.Prelude.{◌≡◌, ◌+◌, ◌≤◌, ◌<◌};
 ghost use Rattle.model.specs.Whole.{IsWhole};
-ghost use Rattle.model.specs.Legs.{LegTable};
 ghost use Rattle.two_opt_candidates.specs.Pairs.{choice_of, least_pair};
 ghost use Rattle.two_opt_candidates.specs.Weighed.{Weighs, found, tried, joined_length, ends_price, after_exchange, after_turns, after_all, Joins, TwoCuts, TwoCutRoutes, Routes};
 
-use model::Prices;
+use distance::{Legs, Tariff};
 use two_opt_cuts::{Cut, Cuts, End};
 
 // A candidate stays a number, and is no struct of six flags, which would be no plainer: the definitions number the candidates in the
@@ -46,29 +45,29 @@ pub struct Best {
 }
 
 // The length of a route that is joined from a head and a tail.
-fn joined(legs: &[u32], head: End, tail: End) -> u32
-    requires { LegTable legs.now × (head.joint < 80) × (tail.joint < 80) × (head.out + tail.back ≤ 12800000) }
-    ensures { (result ≡ joined_length legs.now head tail) × (result ≤ 13000000) }
+fn joined(legs: &Legs, head: End, tail: End) -> u32
+    requires { (head.joint < 80) × (tail.joint < 80) × (head.out + tail.back ≤ 12800000) }
+    ensures { (result ≡ joined_length legs.now.table head tail) × (result ≤ 13000000) }
 {
-    head.out + distance::leg(legs, head.joint, tail.joint) + tail.back
+    head.out + legs.leg(head.joint, tail.joint) + tail.back
 }
 
 // What two routes cost: the one of the head and the tail of x on the first vehicle, and that of y on the second.
-fn pair_price(legs: &[u32], prices: Prices, x: Cut, y: Cut) -> f64
-    requires { Joins legs.now prices x.head x.tail y.head y.tail }
-    ensures { Weighs (ends_price legs.now prices x.head x.tail y.head y.tail) result }
+fn pair_price(tariff: &Tariff, x: Cut, y: Cut) -> f64
+    requires { Joins x.head x.tail y.head y.tail }
+    ensures { Weighs (ends_price tariff.now.legs.table tariff.now.prices x.head x.tail y.head y.tail) result }
 {
-    let x = joined(legs, x.head.first, x.tail.first);
-    let y = joined(legs, y.head.second, y.tail.second);
-    delivery::price(x, prices) + delivery::price(y, prices)
+    let x = joined(&tariff.legs, x.head.first, x.tail.first);
+    let y = joined(&tariff.legs, y.head.second, y.tail.second);
+    delivery::price(x, tariff.prices) + delivery::price(y, tariff.prices)
 }
 
 // The best so far, or the candidate of two such routes where that is strictly cheaper.
-fn weighed(legs: &[u32], prices: Prices, x: Cut, y: Cut, code: usize, best: Best) -> Best
-    requires { Joins legs.now prices x.head x.tail y.head y.tail × IsWhole best.price }
-    ensures { IsWhole result.price × (found result ≡ tried code (ends_price legs.now prices x.head x.tail y.head y.tail) (found best)) }
+fn weighed(tariff: &Tariff, x: Cut, y: Cut, code: usize, best: Best) -> Best
+    requires { Joins x.head x.tail y.head y.tail × IsWhole best.price }
+    ensures { IsWhole result.price × (found result ≡ tried code (ends_price tariff.now.legs.table tariff.now.prices x.head x.tail y.head y.tail) (found best)) }
 {
-    let price = pair_price(legs, prices, x, y);
+    let price = pair_price(tariff, x, y);
     if whole::cheaper(price, best.price) {
         return Best { code, price };
     }
@@ -76,9 +75,9 @@ fn weighed(legs: &[u32], prices: Prices, x: Cut, y: Cut, code: usize, best: Best
 }
 
 // The best so far and the candidates of two cut routes that exchange their tails (code + 1) or their heads (code + 2).
-fn exchanged(legs: &[u32], prices: Prices, x: Cut, y: Cut, code: usize, best: Best) -> Best
-    requires { TwoCuts legs.now prices x y × (code ≤ 60) × IsWhole best.price }
-    ensures { IsWhole result.price × (found result ≡ after_exchange legs.now prices x y code (found best)) }
+fn exchanged(tariff: &Tariff, x: Cut, y: Cut, code: usize, best: Best) -> Best
+    requires { TwoCuts x y × (code ≤ 60) × IsWhole best.price }
+    ensures { IsWhole result.price × (found result ≡ after_exchange tariff.now.legs.table tariff.now.prices x y code (found best)) }
 {
     let first = Cut {
         head: x.head,
@@ -88,42 +87,42 @@ fn exchanged(legs: &[u32], prices: Prices, x: Cut, y: Cut, code: usize, best: Be
         head: y.head,
         tail: x.tail,
     };
-    let tails = weighed(legs, prices, first, second, code + 1, best);
-    weighed(legs, prices, second, first, code + 2, tails)
+    let tails = weighed(tariff, first, second, code + 1, best);
+    weighed(tariff, second, first, code + 2, tails)
 }
 
 // The best so far and the sixteen candidates of two routes that are turned in one way. Those that keep or exchange both heads
 // and tails have the same two routes for all cuts, so they are weighed once.
-fn least_of_turns(legs: &[u32], prices: Prices, x: Cuts, y: Cuts, code: usize, best: Best) -> Best
-    requires { TwoCutRoutes legs.now prices x y × (code ≤ 48) × IsWhole best.price }
-    ensures { IsWhole result.price × (found result ≡ after_turns legs.now prices x y code (found best)) }
+fn least_of_turns(tariff: &Tariff, x: Cuts, y: Cuts, code: usize, best: Best) -> Best
+    requires { TwoCutRoutes x y × (code ≤ 48) × IsWhole best.price }
+    ensures { IsWhole result.price × (found result ≡ after_turns tariff.now.legs.table tariff.now.prices x y code (found best)) }
 {
     // a and c are cuts of the first route, b and d of the second.
     let a = x.before;
     let b = y.before;
     let c = x.after;
     let d = y.after;
-    let kept = weighed(legs, prices, a, b, code, best);
-    let ends = exchanged(legs, prices, a, b, code, kept);
-    let whole = weighed(legs, prices, b, a, code + 3, ends);
-    let one = exchanged(legs, prices, a, d, code + 4, whole);
-    let two = exchanged(legs, prices, c, b, code + 8, one);
-    exchanged(legs, prices, c, d, code + 12, two)
+    let kept = weighed(tariff, a, b, code, best);
+    let ends = exchanged(tariff, a, b, code, kept);
+    let whole = weighed(tariff, b, a, code + 3, ends);
+    let one = exchanged(tariff, a, d, code + 4, whole);
+    let two = exchanged(tariff, c, b, code + 8, one);
+    exchanged(tariff, c, d, code + 12, two)
 }
 
 // The best candidate of two routes that are cut: reversed is none of them, the second, the first, both.
-fn least_of_cuts(legs: &[u32], prices: Prices, x: Cuts, y: Cuts) -> Best
-    requires { TwoCutRoutes legs.now prices x y }
-    ensures { found result ≡ after_all legs.now prices x y }
+fn least_of_cuts(tariff: &Tariff, x: Cuts, y: Cuts) -> Best
+    requires { TwoCutRoutes x y }
+    ensures { found result ≡ after_all tariff.now.legs.table tariff.now.prices x y }
 {
-    let price = pair_price(legs, prices, x.before, y.before);
+    let price = pair_price(tariff, x.before, y.before);
     let old = Best { code: 0, price };
     let p = two_opt_cuts::reversed(x);
     let q = two_opt_cuts::reversed(y);
-    let none = least_of_turns(legs, prices, x, y, 0, old);
-    let second = least_of_turns(legs, prices, x, q, 16, none);
-    let first = least_of_turns(legs, prices, p, y, 32, second);
-    least_of_turns(legs, prices, p, q, 48, first)
+    let none = least_of_turns(tariff, x, y, 0, old);
+    let second = least_of_turns(tariff, x, q, 16, none);
+    let first = least_of_turns(tariff, p, y, 32, second);
+    least_of_turns(tariff, p, q, 48, first)
 }
 
 // A stop, and the vehicle on whose route it is.
@@ -134,20 +133,13 @@ pub struct Visit {
 }
 
 // The kept candidate of two stops on two routes.
-pub fn least_pair(
-    legs: &[u32],
-    prices: Prices,
-    first: Visit,
-    ra: &[u32],
-    second: Visit,
-    rb: &[u32],
-) -> Best
-    requires { Routes legs.now prices first.vehicle ra.now first.stop second.vehicle rb.now second.stop }
-    ensures { found result ≡ least_pair legs.now prices first.vehicle ra.now first.stop second.vehicle rb.now second.stop }
+pub fn least_pair(tariff: &Tariff, first: Visit, ra: &[u32], second: Visit, rb: &[u32]) -> Best
+    requires { Routes first.vehicle ra.now first.stop second.vehicle rb.now second.stop }
+    ensures { found result ≡ least_pair tariff.now.legs.table tariff.now.prices first.vehicle ra.now first.stop second.vehicle rb.now second.stop }
 {
     let i = solution::position(ra, first.stop);
     let j = solution::position(rb, second.stop);
-    let x = two_opt_cuts::cut_at(legs, first.vehicle, second.vehicle, ra, i);
-    let y = two_opt_cuts::cut_at(legs, first.vehicle, second.vehicle, rb, j);
-    least_of_cuts(legs, prices, x, y)
+    let x = two_opt_cuts::cut_at(&tariff.legs, first.vehicle, second.vehicle, ra, i);
+    let y = two_opt_cuts::cut_at(&tariff.legs, first.vehicle, second.vehicle, rb, j);
+    least_of_cuts(tariff, x, y)
 }

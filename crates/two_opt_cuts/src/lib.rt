@@ -5,9 +5,10 @@
 ghost use Rattle.std.specs.Prelude.{◌≡◌, List, [], ◌∷◌, ◌++◌, reverse, ℕ, ◌<◌, length};
 ghost use Rattle.std.specs.Iterator.{AlwaysYields, IsFinite};
 ghost use Rattle.model.specs.Plan.{Route};
-ghost use Rattle.model.specs.Legs.{LegTable};
 ghost use Rattle.distance.specs.Ways.{Drivable};
 ghost use Rattle.two_opt_cuts.specs.Ends.{EndOf, EndsOf, Short, Shorts, CutBy, reversed_cuts};
+
+use distance::Legs;
 
 // The stops of a route from a vehicle's place up to a cut: the place at the cut, the legs out to it, and the legs back from it.
 #[derive(Clone, Copy)]
@@ -40,22 +41,22 @@ pub struct Cuts {
 }
 
 // An end with one stop more at the cut.
-fn onward(legs: &[u32], end: End, stop: u32) -> End
-    requires { LegTable legs.now × Short 63 end × (stop < 64) }
-    ensures { (k : ℕ) (xs : Route) → EndOf legs.now k xs end → EndOf legs.now k (xs ++ stop ∷ []) result }
+fn onward(legs: &Legs, end: End, stop: u32) -> End
+    requires { Short 63 end × (stop < 64) }
+    ensures { (k : ℕ) (xs : Route) → EndOf legs.now.table k xs end → EndOf legs.now.table k (xs ++ stop ∷ []) result }
 {
     let s = stop as usize;
     End {
         joint: s,
-        out: end.out + distance::leg(legs, end.joint, s),
-        back: end.back + distance::leg(legs, s, end.joint),
+        out: end.out + legs.leg(end.joint, s),
+        back: end.back + legs.leg(s, end.joint),
     }
 }
 
 // The same on both vehicles.
-fn with_stop(legs: &[u32], ends: Ends, stop: u32) -> Ends
-    requires { LegTable legs.now × Shorts 63 ends × (stop < 64) }
-    ensures { (a b : ℕ) (xs : Route) → EndsOf legs.now a b xs ends → EndsOf legs.now a b (xs ++ stop ∷ []) result }
+fn with_stop(legs: &Legs, ends: Ends, stop: u32) -> Ends
+    requires { Shorts 63 ends × (stop < 64) }
+    ensures { (a b : ℕ) (xs : Route) → EndsOf legs.now.table a b xs ends → EndsOf legs.now.table a b (xs ++ stop ∷ []) result }
 {
     let first = onward(legs, ends.first, stop);
     let second = onward(legs, ends.second, stop);
@@ -76,15 +77,15 @@ fn empty(vehicle: usize) -> End
 
 // The ends of the stops that an iterator gives, one after another: from the front of a route on they make a head, from its back a tail.
 fn ends_along<'a, I: Iterator<Item = &'a u32> + Drop>(
-    legs: &[u32],
+    legs: &Legs,
     a: usize,
     b: usize,
     stops: I,
 ) -> Ends
-    requires ready { LegTable legs.now × (a < 16) × (b < 16) }
+    requires ready { (a < 16) × (b < 16) }
     requires next { I.can_next stops × IsFinite (I.remaining stops) }
     requires gives { (xs : Route) × AlwaysYields I.next_gives (λ s. s.now) stops xs × Drivable xs }
-    ensures { (xs : Route) → AlwaysYields I.next_gives (λ s. s.now) stops xs → EndsOf legs.now a b xs result }
+    ensures { (xs : Route) → AlwaysYields I.next_gives (λ s. s.now) stops xs → EndsOf legs.now.table a b xs result }
 {
     let mut ends = Ends {
         first: empty(a),
@@ -97,9 +98,9 @@ fn ends_along<'a, I: Iterator<Item = &'a u32> + Drop>(
 }
 
 // A route cut before and after the stop at i.
-pub fn cut_at(legs: &[u32], a: usize, b: usize, route: &[u32], i: usize) -> Cuts
-    requires { LegTable legs.now × (a < 16) × (b < 16) × Drivable route.now × (i < length route.now) }
-    ensures { CutBy legs.now a b route.now i result }
+pub fn cut_at(legs: &Legs, a: usize, b: usize, route: &[u32], i: usize) -> Cuts
+    requires { (a < 16) × (b < 16) × Drivable route.now × (i < length route.now) }
+    ensures { CutBy legs.now.table a b route.now i result }
 {
     let up = ends_along(legs, a, b, route[..i].iter());
     let down = ends_along(legs, a, b, route[i + 1..].iter().rev());

@@ -3,37 +3,29 @@
 
 ghost use Rattle.std.specs.Prelude.{◌≡◌, ◌++◌, ◌+◌, ◌≤◌, length, take, drop};
 ghost use Rattle.model.specs.Job.{Job};
-ghost use Rattle.model.specs.Plan.{route_of, encode, decode, Lent};
-ghost use Rattle.model.specs.Legs.{Fits};
+ghost use Rattle.model.specs.Plan.{route_of};
 ghost use Rattle.model.specs.TwoOpt.{turned, set_route, inter};
-ghost use Rattle.delivery.specs.Costs.{Ready};
+ghost use Rattle.solution.specs.Held.{routes, Becomes};
+ghost use Rattle.delivery.specs.Held.{IsJobOf};
 ghost use Rattle.pasting.specs.Put.{put};
 ghost use Rattle.two_opt_candidates.specs.Pairs.{pair_of, plan_at, least_pair};
-ghost use Rattle.two_opt_inter.specs.Move.{OnTwoRoutes, TwoRoutes, Pair, NewRows, joined_route};
+ghost use Rattle.two_opt_inter.specs.Move.{OnTwoRoutes, TwoRoutes, NewRows, joined_route};
 
-use model::Prices;
+use distance::Tariff;
+use solution::Plan;
 use two_opt_candidates::Best;
 pub use two_opt_candidates::Visit;
 
 // The kept candidate of a pair of stops on two routes of a plan.
-fn least_of_plan(
-    legs: &[u32],
-    v: usize,
-    n: usize,
-    prices: Prices,
-    plan: &[u32],
-    first: Visit,
-    second: Visit,
-) -> Best
-    requires ready { Ready legs.now v n prices plan.now }
-    requires on_two_routes { OnTwoRoutes v plan.now first.vehicle first.stop second.vehicle second.stop }
-    ensures { let ra = route_of (decode v plan.now) first.vehicle in
-        let rb = route_of (decode v plan.now) second.vehicle in
-        result.code ≡ (least_pair legs.now prices first.vehicle ra first.stop second.vehicle rb second.stop).0 }
+fn least_of_plan(tariff: &Tariff, plan: &Plan, first: Visit, second: Visit) -> Best
+    requires { OnTwoRoutes plan.now first.vehicle first.stop second.vehicle second.stop }
+    ensures { let ra = route_of (routes plan.now) first.vehicle in
+        let rb = route_of (routes plan.now) second.vehicle in
+        result.code ≡ (least_pair tariff.now.legs.table tariff.now.prices first.vehicle ra first.stop second.vehicle rb second.stop).0 }
 {
-    let ra = solution::route(plan, v, n, first.vehicle);
-    let rb = solution::route(plan, v, n, second.vehicle);
-    two_opt_candidates::least_pair(legs, prices, first, ra, second, rb)
+    let ra = plan.route(first.vehicle);
+    let rb = plan.route(second.vehicle);
+    two_opt_candidates::least_pair(tariff, first, ra, second, rb)
 }
 
 // Writes a route into the front of a row, reversed or not.
@@ -66,21 +58,11 @@ fn write_joined(row: &mut [u32], heads: bool, tails: bool, own: Row, other: Row)
     pasting::join(row, 0, &head.stops[..head.at], &tail.stops[tail.at..])
 }
 
-// Writes the plan of a candidate that is made of two rows, in which the stops of the pair stand at i and j.
-fn write_pair(
-    old: &[u32],
-    plan: &mut [u32],
-    v: usize,
-    n: usize,
-    a: usize,
-    ra: Row,
-    b: usize,
-    rb: Row,
-    code: usize,
-)
-    requires { TwoRoutes v n old.now a b × NewRows v old.now a ra.stops.now ra.at b rb.stops.now rb.at × (length plan.old ≡ v + n) }
+// Replaces a plan by that of a candidate, which is made of two rows in which the stops of the pair stand at i and j.
+fn write_pair(plan: &mut Plan, a: usize, ra: Row, b: usize, rb: Row, code: usize)
+    requires { TwoRoutes plan.old a b × NewRows plan.old a ra.stops.now ra.at b rb.stops.now rb.at }
     ensures { let new = pair_of ra.entry.stops.now ra.entry.at rb.entry.stops.now rb.entry.at code in
-        plan.new ≡ encode n (set_route b new.1 (set_route a new.0 (decode v old.now))) }
+        Becomes plan.old plan.new (set_route b new.1 (set_route a new.0 (routes plan.old))) }
 {
     let c = two_opt_candidates::choice_of(code, ra.at, rb.at);
     let first = Row {
@@ -95,24 +77,16 @@ fn write_pair(
     let p = write_joined(&mut x, c.heads, c.tails, first, second);
     let mut y = [0u32; 64];
     let q = write_joined(&mut y, c.heads, c.tails, second, first);
-    joining::replace_two(old, plan, v, n, a, &x[..p], b, &y[..q]);
+    joining::replace(plan, a, &x[..p], b, &y[..q]);
 }
 
-// Writes the plan of a candidate of a pair of stops. The stops' positions are read after the reversal.
-fn write_candidate(
-    old: &[u32],
-    plan: &mut [u32],
-    v: usize,
-    n: usize,
-    first: Visit,
-    second: Visit,
-    code: usize,
-)
-    requires { Pair v n old.now first.vehicle first.stop second.vehicle second.stop × (length plan.old ≡ v + n) }
-    ensures { plan.new ≡ encode n (plan_at (decode v old.now) first.vehicle first.stop second.vehicle second.stop code) }
+// Replaces a plan by that of a candidate of a pair of stops. The stops' positions are read after the reversal.
+fn write_candidate(plan: &mut Plan, first: Visit, second: Visit, code: usize)
+    requires { OnTwoRoutes plan.old first.vehicle first.stop second.vehicle second.stop }
+    ensures { Becomes plan.old plan.new (plan_at (routes plan.old) first.vehicle first.stop second.vehicle second.stop code) }
 {
-    let ra = solution::route(old, v, n, first.vehicle);
-    let rb = solution::route(old, v, n, second.vehicle);
+    let ra = plan.route(first.vehicle);
+    let rb = plan.route(second.vehicle);
     let m = ra.len();
     let k = rb.len();
     let mut xa = [0u32; 64];
@@ -125,33 +99,23 @@ fn write_candidate(
     let j = solution::position(tb, second.stop);
     let xs = Row { stops: ta, at: i };
     let ys = Row { stops: tb, at: j };
-    write_pair(old, plan, v, n, first.vehicle, xs, second.vehicle, ys, code);
+    write_pair(plan, first.vehicle, xs, second.vehicle, ys, code);
 }
 
 // The code of the plan as it is.
 const OLD_PLAN: usize = 0;
 
 // The two-opt move of two stops on two routes of a plan: the kept candidate is written, unless it is the old plan.
-pub fn inter(
-    legs: &[u32],
-    v: usize,
-    n: usize,
-    prices: Prices,
-    plan: &mut [u32],
-    first: Visit,
-    second: Visit,
-)
-    requires ready { Ready legs.now v n prices plan.old }
-    requires on_two_routes { OnTwoRoutes v plan.old first.vehicle first.stop second.vehicle second.stop }
-    ensures plan_after { (J : Job) → Fits J legs.now v n prices → plan.new ≡ encode n (inter J (decode v plan.old) first.vehicle first.stop second.vehicle second.stop) }
-    ensures lent { Lent v n plan.new }
+pub fn inter(tariff: &Tariff, plan: &mut Plan, first: Visit, second: Visit)
+    requires { OnTwoRoutes plan.old first.vehicle first.stop second.vehicle second.stop }
+    ensures plan_after { (J : Job) → IsJobOf J tariff.now plan.old
+        → Becomes plan.old plan.new (inter J (routes plan.old) first.vehicle first.stop second.vehicle second.stop) }
+    ensures sizes { (plan.new.v ≡ plan.old.v) × (plan.new.n ≡ plan.old.n) }
 {
-    let best = least_of_plan(legs, v, n, prices, plan, first, second);
+    let best = least_of_plan(tariff, plan, first, second);
     let code = best.code;
     if code == OLD_PLAN {
         return;
     }
-    let mut old = [0u32; 80];
-    let m = pasting::paste(&mut old, 0, plan);
-    write_candidate(&old[..m], plan, v, n, first, second, code);
+    write_candidate(plan, first, second, code);
 }

@@ -2,7 +2,7 @@
 use mathlib.Core.Path.{◌≡◌, refl, sym, ap, ap₂, ◌∙◌, subst}
 use mathlib.Core.Bool.{Bool, true, false, cond}
 use mathlib.Core.List.{List, []}
-use Prim.Native.Nat.{ℕ, ◌-◌, ◌<◌, ◌≤◌, min, max}
+use Prim.Native.Nat.{ℕ, ◌<◌, ◌≤◌, min, max}
 use native.Mathlib.Omega.{arith}
 use lib.Dec.{ltb}
 use lib.Ieee.{Float, lt}
@@ -45,20 +45,18 @@ module _ (i j : ℕ) (r : Route) (l : i < j) where
 
 -- ---- what routes cost
 
-module _ {t : List ℕ} {p : Prices} {k : ℕ} where
-  weighable-alike : {w r : Route} → Alike w r → Weighable t p k w → Weighable t p k r
-  weighable-alike {w} {r} a W =
-      record {
-        legs = W.legs;
-        prices = W.prices;
-        vehicle = W.vehicle;
-        route =
-            record {
-              few = omega (arith, alike-length w r a, W.route.few);
-              stops = λ x h. W.route.stops x (omega (arith, a x));
-            };
-      }
+weighable-alike : {k : ℕ} {w r : Route} → Alike w r → Weighable k w → Weighable k r
+weighable-alike {k} {w} {r} a W =
+    record {
+      vehicle = W.vehicle;
+      route =
+          record {
+            few = omega (arith, alike-length w r a, W.route.few);
+            stops = λ x h. W.route.stops x (omega (arith, a x));
+          };
+    }
 
+module _ {t : List ℕ} {p : Prices} {k : ℕ} where
   -- what a route of that length costs is its price
   pub weighed : {r : Route} {d : ℕ} (c : Float) → Affordable p → RouteLength t k r d → c ≡ whole (price p d) → Weighs t p k r c
   weighed {d = d} c A L e =
@@ -81,8 +79,8 @@ front r x d₀ d e a =
     record { stands = rw (e, l) (take_at x _ (length x) refl); alike = a }
 
 module _ {r x d : List ℕ} (F : Front r x d) where
-  pub weighable-front : {t : List ℕ} {p : Prices} {k : ℕ} → Weighable t p k r → Weighable t p k (take (length r) d)
-  weighable-front {t} {p} {k} W = subst (Weighable t p k) (sym F.stands) (weighable-alike F.alike W)
+  pub weighable-front : {k : ℕ} → Weighable k r → Weighable k (take (length r) d)
+  weighable-front {k} W = subst (Weighable k) (sym F.stands) (weighable-alike F.alike W)
 
   pub weighs-front : {t : List ℕ} {p : Prices} {k : ℕ} {c : Float} → Weighs t p k (take (length r) d) c → Weighs t p k x c
   weighs-front {t} {p} {k} {c} W = subst (λ (q : Route). Weighs t p k q c) F.stands W

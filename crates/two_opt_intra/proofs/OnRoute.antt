@@ -1,4 +1,4 @@
--- A pair on one route of a plan that is lent.
+-- A pair on one route of a plan.
 use mathlib.Core.Path.{◌≡◌, refl, sym, ap, ◌∙◌, subst}
 use mathlib.Core.Logic.{◌≢◌}
 use mathlib.Core.List.{List, ◌++◌}
@@ -7,23 +7,25 @@ use native.Mathlib.Omega.{arith}
 use lib.ListN.{length, get_or, take, drop}
 use Rattle.model.specs.Lists.{sum, part, position}
 use Rattle.model.specs.Job.{Job}
-use Rattle.model.specs.Plan.{Route, route_of, encode, decode, Lent}
-use Rattle.model.specs.Legs.{Fits}
+use Rattle.model.specs.Plan.{Route, route_of, encode, Lent}
+use Rattle.model.specs.Plan as form
 use Rattle.model.specs.TwoOpt.{set_route, intra}
-use Rattle.model.specs.declared.Prices.{Prices}
 use Rattle.model.proofs.Lists.{position-lt, position-apart}
 use Rattle.model.proofs.PlanForm.{route-part, route-end}
+use Rattle.distance.specs.declared.tariff.Tariff.{Tariff}
+use Rattle.solution.specs.declared.plan.Plan.{Plan}
+use Rattle.solution.specs.Held.{numbers_of, routes, Becomes}
 use Rattle.delivery.specs.Costs.{Ready}
-use Rattle.delivery.proofs.Laws.{lent-drivable}
+use Rattle.delivery.specs.Held.{IsJobOf}
+use Rattle.delivery.proofs.Ready.{ready, drivable}
 use Rattle.two_opt_intra.specs.Reordered.{reordered, Weighable, OneRoute}
 use Rattle.two_opt_intra.proofs.Choice.{alike-length, reordered-alike, intra-is, reordered-lent}
 use Rattle.two_opt_intra.proofs.InPlace.{lent_back}
 
 -- a plan whose route k has the stops s and u, and where that route starts
-pub record Given (t : List ℕ) (v n : ℕ) (p : Prices) (xs : List ℕ) (k s u start : ℕ) : Type 0 where
-  pub ready : Ready t v n p xs
-  pub one : OneRoute v xs k s u
-  pub at : start ≡ v + sum (take k xs)
+pub record Given (p : Plan) (k s u start : ℕ) : Type 0 where
+  pub one : OneRoute p k s u
+  pub at : start ≡ p.v + sum (take k (numbers_of p))
 
 -- where it ends
 pub record Bounds (xs : List ℕ) (k start : ℕ) : Type 0 where
@@ -45,28 +47,28 @@ lent_part xs k start = part start (start + get_or xs k 0) xs
 abbrev back : List ℕ → ℕ → ℕ → Route → List ℕ
 back xs k start ys = take start xs ++ (ys ++ drop (start + get_or xs k 0 - start) (drop start xs))
 
-module _ {t : List ℕ} {v n : ℕ} {p : Prices} {xs : List ℕ} {k s u start : ℕ} (G : Given t v n p xs k s u start) where
-  pub bounds : Bounds xs k start
+module _ {p : Plan} {k s u start : ℕ} (G : Given p k s u start) where
+  pub bounds : Bounds (numbers_of p) k start
   bounds =
-      let L = G.ready.plan in
-      let h = route-end v n xs L.long L.fits k G.one.vehicle in
-      record { inside = omega (arith, L.long, G.at); small = omega (arith, G.at, G.ready.sizes.vehicles, G.ready.sizes.stops) }
+      let L = p.lent in
+      let h = route-end p.v p.n (numbers_of p) L.long L.fits k G.one.vehicle in
+      record { inside = omega (arith, L.long, G.at); small = omega (arith, G.at, p.sizes.vehicles, p.sizes.stops) }
 
   -- the part that is lent is the route
-  here : lent_part xs k start ≡ route_of (decode v xs) k
-  here = sym (route-part v xs (omega (arith, G.ready.plan.long)) k start G.one.vehicle G.at)
+  here : lent_part (numbers_of p) k start ≡ route_of (routes p) k
+  here = sym (route-part p.v (numbers_of p) (omega (arith, p.lent.long)) k start G.one.vehicle G.at)
 
-  module _ {i j : ℕ} (ei : i ≡ position s (lent_part xs k start)) (ej : j ≡ position u (lent_part xs k start)) where
-    i-is : i ≡ position s (route_of (decode v xs) k)
+  module _ {i j : ℕ} (ei : i ≡ position s (lent_part (numbers_of p) k start)) (ej : j ≡ position u (lent_part (numbers_of p) k start)) where
+    i-is : i ≡ position s (route_of (routes p) k)
     i-is = ei ∙ ap (position s) here
 
-    j-is : j ≡ position u (route_of (decode v xs) k)
+    j-is : j ≡ position u (route_of (routes p) k)
     j-is = ej ∙ ap (position u) here
 
     -- the stops are apart, so the lower position is below the higher
-    pub ordered : {lo hi : ℕ} → lo ≡ min i j → hi ≡ max i j → Ordered (route_of (decode v xs) k) s u lo hi
+    pub ordered : {lo hi : ℕ} → lo ≡ min i j → hi ≡ max i j → Ordered (route_of (routes p) k) s u lo hi
     ordered el eh =
-        let ne : i ≢ j = λ q. position-apart s u (route_of (decode v xs) k) G.one.first G.one.second G.one.apart (sym i-is ∙ (q ∙ j-is)) in
+        let ne : i ≢ j = λ q. position-apart s u (route_of (routes p) k) G.one.first G.one.second G.one.apart (sym i-is ∙ (q ∙ j-is)) in
         record {
           low = omega (arith, i-is, j-is);
           high = omega (arith, i-is, j-is);
@@ -75,36 +77,41 @@ module _ {t : List ℕ} {v n : ℕ} {p : Prices} {xs : List ℕ} {k s u start : 
             arith,
             i-is,
             j-is,
-            position-lt s (route_of (decode v xs) k) G.one.first,
-            position-lt u (route_of (decode v xs) k) G.one.second,
+            position-lt s (route_of (routes p) k) G.one.first,
+            position-lt u (route_of (routes p) k) G.one.second,
           );
         }
 
-  module _ {lo hi : ℕ} (o : Ordered (route_of (decode v xs) k) s u lo hi) where
+  module _ (t : Tariff) {lo hi : ℕ} (o : Ordered (route_of (routes p) k) s u lo hi) where
     -- what is asked of the part that is lent
-    pub asked : Weighable t p k (lent_part xs k start) × ((lo < hi) × (hi < length (lent_part xs k start)))
+    pub asked : Weighable k (lent_part (numbers_of p) k start) × ((lo < hi) × (hi < length (lent_part (numbers_of p) k start)))
     asked =
-        let w : Weighable t p k (route_of (decode v xs) k) =
+        let w : Weighable k (route_of (routes p) k) =
         record {
-          legs = G.ready.legs;
-          prices = G.ready.prices;
-          vehicle = omega (arith, G.one.vehicle, G.ready.sizes.vehicles);
-          route = lent-drivable t v n p xs G.ready k;
+          vehicle = omega (arith, G.one.vehicle, p.sizes.vehicles);
+          route = drivable t p k;
         }
         in
-        (subst (Weighable t p k) (sym here) w, (o.apart, subst (λ (r : Route). hi < length r) (sym here) o.inside))
+        (subst (Weighable k) (sym here) w, (o.apart, subst (λ (r : Route). hi < length r) (sym here) o.inside))
 
-    module _ (ys : Route) (e : ys ≡ reordered t p k lo hi (lent_part xs k start)) where
-      -- what is left when it comes back
-      left : back xs k start ys ≡ encode n (set_route k (reordered t p k lo hi (route_of (decode v xs) k)) (decode v xs))
-      left =
-          let r : Route = reordered t p k lo hi (route_of (decode v xs) k) in
-          let f : ys ≡ r = e ∙ ap (reordered t p k lo hi) here in
-          let l : length r ≡ length (route_of (decode v xs) k) = alike-length (route_of (decode v xs) k) r (reordered-alike t p k lo hi (route_of (decode v xs) k) o.apart) in
-          rw f (lent_back v n xs G.ready.plan k G.one.vehicle start (start + get_or xs k 0) r G.at refl l)
+    -- the route that is made of it
+    abbrev new : Route
+    new = reordered t.legs.table t.prices k lo hi (route_of (routes p) k)
 
-      pub improved : ((J : Job) → Fits J t v n p → back xs k start ys ≡ encode n (intra J (decode v xs) k s u)) × Lent v n (back xs k start ys)
-      improved = (
-        λ J F. left ∙ ap (encode n) (intra-is t v n p xs G.ready k G.one.vehicle J F s u lo hi o.low o.high o.apart),
-        rw left (reordered-lent t v n p xs G.ready k G.one.vehicle lo hi o.apart),
-      )
+    pub lent : Lent p.v p.n (encode p.n (set_route k new (routes p)))
+    lent = reordered-lent t.legs.table p.v p.n t.prices (numbers_of p) (ready t p) k G.one.vehicle lo hi o.apart
+
+    -- what is left when it comes back
+    pub left : (ys : Route) → ys ≡ reordered t.legs.table t.prices k lo hi (lent_part (numbers_of p) k start)
+        → back (numbers_of p) k start ys ≡ encode p.n (set_route k new (routes p))
+    left ys e =
+        let f : ys ≡ new = e ∙ ap (reordered t.legs.table t.prices k lo hi) here in
+        let l : length new ≡ length (route_of (routes p) k) =
+        alike-length (route_of (routes p) k) new (reordered-alike t.legs.table t.prices k lo hi (route_of (routes p) k) o.apart)
+        in
+        rw f (lent_back p.v p.n (numbers_of p) p.lent k G.one.vehicle start (start + get_or (numbers_of p) k 0) new G.at refl l)
+
+    pub improved : (q : Plan) → Becomes p q (set_route k new (routes p)) → (J : Job) → IsJobOf J t p → Becomes p q (intra J (routes p) k s u)
+    improved q h J F =
+        subst (λ (P : form.Plan). Becomes p q P)
+        (intra-is t.legs.table p.v p.n t.prices (numbers_of p) (ready t p) k G.one.vehicle J F s u lo hi o.low o.high o.apart) h

@@ -3,37 +3,37 @@
 
 ghost use Rattle.std.specs.Prelude.{◌≡◌, ◌<◌, length};
 ghost use Rattle.model.specs.Job.{Job};
-ghost use Rattle.model.specs.Plan.{encode, decode, Lent};
-ghost use Rattle.model.specs.Legs.{Fits};
 ghost use Rattle.model.specs.TwoOpt.{intra};
-ghost use Rattle.delivery.specs.Costs.{Ready};
+ghost use Rattle.solution.specs.Held.{routes, Becomes};
+ghost use Rattle.delivery.specs.Held.{IsJobOf};
 ghost use Rattle.two_opt_intra.specs.Reordered.{reordered, Weighable, Weighs, OneRoute};
 
-use model::Prices;
+use distance::Tariff;
+use solution::Plan;
 
 // What a route costs on a vehicle.
-fn weigh(legs: &[u32], prices: Prices, vehicle: usize, route: &[u32]) -> f64
-    requires { Weighable legs.now prices vehicle route.now }
-    ensures { Weighs legs.now prices vehicle route.now result }
+fn weigh(tariff: &Tariff, vehicle: usize, route: &[u32]) -> f64
+    requires { Weighable vehicle route.now }
+    ensures { Weighs tariff.now.legs.table tariff.now.prices vehicle route.now result }
 {
-    let length = distance::route_length(legs, vehicle, route);
-    delivery::price(length, prices)
+    let length = tariff.legs.route_length(vehicle, route);
+    delivery::price(length, tariff.prices)
 }
 
 // Replaces a route by the first of the cheapest of its two new forms, for the stops at i and j, and itself.
-fn reorder(legs: &[u32], prices: Prices, vehicle: usize, route: &mut [u32], i: usize, j: usize)
-    requires weighable { Weighable legs.now prices vehicle route.old }
+fn reorder(tariff: &Tariff, vehicle: usize, route: &mut [u32], i: usize, j: usize)
+    requires weighable { Weighable vehicle route.old }
     requires i_lt_j { (i < j) × (j < length route.old) }
-    ensures { route.new ≡ reordered legs.now prices vehicle i j route.old }
+    ensures { route.new ≡ reordered tariff.now.legs.table tariff.now.prices vehicle i j route.old }
 {
     let m = route.len();
     let mut first = [0u32; 64];
     let mut second = [0u32; 64];
     two_opt_inversions::ends_exchanged(route, i, j, &mut first);
     two_opt_inversions::inverted(route, i, j, &mut second);
-    let a = weigh(legs, prices, vehicle, &first[..m]);
-    let b = weigh(legs, prices, vehicle, &second[..m]);
-    let old = weigh(legs, prices, vehicle, route);
+    let a = weigh(tariff, vehicle, &first[..m]);
+    let b = weigh(tariff, vehicle, &second[..m]);
+    let old = weigh(tariff, vehicle, route);
     let (form, cost) = if b < a {
         (&second[..m], b)
     } else {
@@ -46,25 +46,20 @@ fn reorder(legs: &[u32], prices: Prices, vehicle: usize, route: &mut [u32], i: u
 }
 
 // The pair s, t on route k: least cost of the two new routes and the old one, on ties the earliest.
-pub fn intra(
-    legs: &[u32],
-    v: usize,
-    n: usize,
-    prices: Prices,
-    plan: &mut [u32],
-    k: usize,
-    s: u32,
-    t: u32,
-)
-    requires ready { Ready legs.now v n prices plan.old }
-    requires one_route { OneRoute v plan.old k s t }
-    ensures plan_after { (J : Job) → Fits J legs.now v n prices → plan.new ≡ encode n (intra J (decode v plan.old) k s t) }
-    ensures lent { Lent v n plan.new }
+pub fn intra(tariff: &Tariff, plan: &mut Plan, k: usize, s: u32, t: u32)
+    requires { OneRoute plan.old k s t }
+    ensures plan_after { (J : Job) → IsJobOf J tariff.now plan.old → Becomes plan.old plan.new (intra J (routes plan.old) k s t) }
+    ensures sizes { (plan.new.v ≡ plan.old.v) × (plan.new.n ≡ plan.old.n) }
 {
-    let start = solution::offset(plan, v, k);
-    let end = start + plan[k] as usize;
-    let route = &mut plan[start..end];
+    let v = plan.v;
+    let n = plan.n;
+    let mut numbers = plan.numbers;
+    let form = &mut numbers[..v + n];
+    let start = solution::offset(form, v, k);
+    let end = start + form[k] as usize;
+    let route = &mut form[start..end];
     let i = solution::position(route, s);
     let j = solution::position(route, t);
-    reorder(legs, prices, k, route, i.min(j), i.max(j));
+    reorder(tariff, k, route, i.min(j), i.max(j));
+    plan.numbers = numbers;
 }

@@ -11,7 +11,8 @@ use lib.Pow.{shl_exact}
 use Rattle.model.specs.Lists.{without, position, member}
 use Rattle.model.specs.Plan.{Plan, route_of, vehicle_of, is_placed}
 use Rattle.model.specs.StopSet.{contains}
-use Rattle.model.specs.Vans.{move_to, bad_vans, on_others_van, beyond_end, bad_move}
+use Rattle.model.specs.Vans.{bad_vans, on_others_van, beyond_end, bad_move}
+use Rattle.model.specs.declared.Move.{Move}
 use Rattle.model.proofs.Lists.{position-lt, position-member, length_without, without-absent}
 use Rattle.model.proofs.Order.{unless}
 use Rattle.model.proofs.Locate.{vehicle-lt}
@@ -30,20 +31,20 @@ shifted v vans h = ap (λ (x : ℕ). leb x vans) (shl_exact 1 v 32 (omega arith)
 -- ---- the place
 
 -- the end of a route, by whether the stop is on it
-module _ (s k i : ℕ) (P : Plan) (r : List ℕ) (e : r ≡ route_of P k) (p : ℕ) (f : p ≡ position s r) where
-  end : ltb (length (without s r)) i ≡ beyond_end (move_to s k i) P
+module _ (m : Move) (P : Plan) (r : List ℕ) (e : r ≡ route_of P m.van) (p : ℕ) (f : p ≡ position m.stop r) where
+  end : ltb (length (without m.stop r)) m.place ≡ beyond_end m P
   unfolding beyond_end
   end = rw (cancelled-route, ← e)
 
-  pub end_after : p < length r → ltb (length r - 1) i ≡ beyond_end (move_to s k i) P
+  pub end_after : p < length r → ltb (length r - 1) m.place ≡ beyond_end m P
   end_after h =
-      let one : length r - 1 ≡ length (without s r) = omega (arith, length_without s r (position-member s r (rw (← f) h))) in
-      ap (λ (x : ℕ). ltb x i) one ∙ end
+      let one : length r - 1 ≡ length (without m.stop r) = omega (arith, length_without m.stop r (position-member m.stop r (rw (← f) h))) in
+      ap (λ (x : ℕ). ltb x m.place) one ∙ end
 
-  pub end-as-it-is : length r ≤ p → ltb (length r) i ≡ beyond_end (move_to s k i) P
+  pub end-as-it-is : length r ≤ p → ltb (length r) m.place ≡ beyond_end m P
   end-as-it-is h =
-      let off : member s r ≡ false = unless (λ on. omega (arith, position-lt s r on)) in
-      ap (λ (xs : List ℕ). ltb (length xs) i) (sym (without-absent s r off)) ∙ end
+      let off : member m.stop r ≡ false = unless (λ on. omega (arith, position-lt m.stop r on)) in
+      ap (λ (xs : List ℕ). ltb (length xs) m.place) (sym (without-absent m.stop r off)) ∙ end
 
 -- ---- the van of the stop
 
@@ -86,22 +87,22 @@ or-true : (a : Bool) → true ≡ (a || true)
 or-true true = refl
 or-true false = refl
 
-module _ (vans s k i : ℕ) (P : Plan) where
-  pub not-held : (t : Bool) → t ≡ not (contains k vans) → t ≡ true → true ≡ bad_move vans (move_to s k i) P
+module _ (vans : ℕ) (m : Move) (P : Plan) where
+  pub not-held : (t : Bool) → t ≡ not (contains m.van vans) → t ≡ true → true ≡ bad_move vans m P
   unfolding bad_move
-  not-held t e h = rw (← e, h) (or-true (on_others_van vans s P))
+  not-held t e h = rw (← e, h) (or-true (on_others_van vans m.stop P))
 
   -- nor is a van from v on held
-  pub no-van : (v : ℕ) → bad_vans v vans ≡ false → v ≤ k → true ≡ bad_move vans (move_to s k i) P
+  pub no-van : (v : ℕ) → bad_vans v vans ≡ false → v ≤ m.van → true ≡ bad_move vans m P
   no-van v b h =
-      let off : contains k vans ≡ false = unless (λ c. omega (arith, van-lt v vans k b c)) in
+      let off : contains m.van vans ≡ false = unless (λ c. omega (arith, van-lt v vans m.van b c)) in
       not-held _ refl (ap not off)
 
-  pub not_ours : (t : Bool) → t ≡ on_others_van vans s P → t ≡ true → true ≡ bad_move vans (move_to s k i) P
+  pub not_ours : (t : Bool) → t ≡ on_others_van vans m.stop P → t ≡ true → true ≡ bad_move vans m P
   unfolding bad_move
   not_ours t e h = rw (← e, h)
 
-  pub by_place : (t : Bool) → t ≡ not (contains k vans) → t ≡ false → (u : Bool) → u ≡ on_others_van vans s P → u ≡ false
-      → (w : Bool) → w ≡ beyond_end (move_to s k i) P → w ≡ bad_move vans (move_to s k i) P
+  pub by_place : (t : Bool) → t ≡ not (contains m.van vans) → t ≡ false → (u : Bool) → u ≡ on_others_van vans m.stop P → u ≡ false
+      → (w : Bool) → w ≡ beyond_end m P → w ≡ bad_move vans m P
   unfolding bad_move
   by_place t e h u f g w b = rw (← f, g, ← e, h) b

@@ -4,48 +4,45 @@
 
 ghost use Rattle.std.specs.Prelude.{◌≡◌, ◌+◌, map, length};
 ghost use Rattle.model.specs.Lists.{concat};
-ghost use Rattle.model.specs.Plan.{encode, decode, Lent, Sizes};
+ghost use Rattle.model.specs.Plan.{encode};
 ghost use Rattle.model.specs.Vans.{unplaced_set, view};
 ghost use Rattle.pasting.specs.Put.{area_of};
+ghost use Rattle.solution.specs.Held.{routes};
+
+use solution::Plan;
 
 // Writes the lengths of the routes that are seen: 0 for another's van.
-fn see_lengths(plan: &[u32], v: usize, n: usize, vans: u32, lengths: &mut [u32])
-    requires sizes { Sizes v n × Lent v n plan.now }
-    requires lengths_len { length lengths.old ≡ v }
-    ensures { lengths.new ≡ map length (view vans (decode v plan.now)) }
+fn see_lengths(plan: &Plan, vans: u32, lengths: &mut [u32])
+    requires { length lengths.old ≡ plan.now.v }
+    ensures { lengths.new ≡ map length (view vans (routes plan.now)) }
 {
-    for k in 0..v {
+    for k in 0..plan.v {
         let own = stop_set::contains(vans as u64, k as u32);
-        lengths[k] = if own { plan[k] } else { 0 };
+        lengths[k] = if own { plan.route(k).len() as u32 } else { 0 };
     }
 }
 
 // Writes the stops of the routes that are seen one after another, and 4294967295 into the places that are left.
-fn see_stops(plan: &[u32], v: usize, n: usize, vans: u32, area: &mut [u32])
-    requires sizes { Sizes v n × Lent v n plan.now }
-    requires area_len { length area.old ≡ n }
-    ensures { area.new ≡ area_of n (concat (view vans (decode v plan.now))) }
+fn see_stops(plan: &Plan, vans: u32, area: &mut [u32])
+    requires { length area.old ≡ plan.now.n }
+    ensures { area.new ≡ area_of plan.now.n (concat (view vans (routes plan.now))) }
 {
     let mut at = 0;
-    let mut from = v;
-    for k in 0..v {
-        let end = from + plan[k] as usize;
+    for k in 0..plan.v {
         if stop_set::contains(vans as u64, k as u32) {
-            at = pasting::paste(area, at, &plan[from..end]);
+            at = pasting::paste(area, at, plan.route(k));
         }
-        from = end;
     }
     pasting::fill(&mut area[at..], 4294967295);
 }
 
 // The set of unplaced stops, from the highest stop down.
-fn unplaced_set(plan: &[u32], v: usize, n: usize) -> u64
-    requires { Sizes v n × Lent v n plan.now }
-    ensures { result ≡ unplaced_set n (decode v plan.now) }
+fn unplaced_set(plan: &Plan) -> u64
+    ensures { result ≡ unplaced_set plan.now.n (routes plan.now) }
 {
-    let placed = solution::placed_set(plan, v, n);
+    let placed = plan.placed_set();
     let mut set: u64 = 0;
-    for s in (0..n as u32).rev() {
+    for s in (0..plan.n as u32).rev() {
         if !stop_set::contains(placed, s) {
             set = stop_set::with(set, s);
         }
@@ -54,13 +51,12 @@ fn unplaced_set(plan: &[u32], v: usize, n: usize) -> u64
 }
 
 // Writes what the caller sees of a plan, and returns the set of unplaced stops.
-pub fn view(plan: &[u32], v: usize, n: usize, vans: u32, seen: &mut [u32]) -> u64
-    requires sizes { Sizes v n × Lent v n plan.now }
-    requires seen_len { length seen.old ≡ v + n }
-    ensures value { result ≡ unplaced_set n (decode v plan.now) }
-    ensures seen_after { seen.new ≡ encode n (view vans (decode v plan.now)) }
+pub fn view(plan: &Plan, vans: u32, seen: &mut [u32]) -> u64
+    requires { length seen.old ≡ plan.now.v + plan.now.n }
+    ensures value { result ≡ unplaced_set plan.now.n (routes plan.now) }
+    ensures seen_after { seen.new ≡ encode plan.now.n (view vans (routes plan.now)) }
 {
-    see_lengths(plan, v, n, vans, &mut seen[..v]);
-    see_stops(plan, v, n, vans, &mut seen[v..]);
-    unplaced_set(plan, v, n)
+    see_lengths(plan, vans, &mut seen[..plan.v]);
+    see_stops(plan, vans, &mut seen[plan.v..]);
+    unplaced_set(plan)
 }

@@ -10,4 +10,4 @@ use Rattle.delivery.proofs.driving_cost.Given as goal
 
 abbrev pub invariant-loop-k : goal.invariant-loop-k
 invariant-loop-k l =
-    (l.at ≡ l.v + added (take l.k l.plan)) × (l.sum ≡ whole (table_driving l.legs l.prices 0 (take l.k (decode l.v l.plan))))
+    (l.at ≡ l.plan.v + added (take l.k l.form)) × (l.sum ≡ whole (table_driving l.tariff.legs.table l.tariff.prices 0 (take l.k (decode l.plan.v l.form))))

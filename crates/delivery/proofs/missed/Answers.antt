@@ -5,4 +5,4 @@ use Rattle.delivery.proofs.missed.Goals as goal
 
 pub overflow_sub-result : goal.overflow_sub-result
 overflow_sub-result c =
-    omega (arith, lent_placed c.args.v c.args.n c.args.plan.now c.requires.1)
+    omega (arith, lent_placed c.args.plan.now.v c.args.plan.now.n _ c.args.plan.now.lent, c.args.plan.now.sizes.stops)

@@ -18,11 +18,8 @@ metres-requires c = c.requires.0
 pub loop-i-preserved : goal.loop-i-preserved
 loop-i-preserved c =
     let a = c.args in
-    row_more a.distances.now a.locations a.from a.ends.now a.first c.loop-i.i a.legs.now c.loop-i.legs c.metres.result
+    row_more a.network.now.distances.now a.network.now.locations a.from a.ends.now a.first c.loop-i.i a.legs.now c.loop-i.legs c.metres.result
     c.loop-i.invariant (room (goal.at.loop-i-preserved c).At-loop-i c.loop-i-test.true) c.metres.ensures
-
-pub shape_of-legs : goal.shape_of-legs
-shape_of-legs c = c.loop-i.invariant.long
 
 pub returns : goal.returns
 returns c =

@@ -1,6 +1,6 @@
 use mathlib.Core.Path.{◌∙◌, ap}
 use native.Mathlib.Omega.{arith}
-use Rattle.model.specs.Plan.{decode}
+use Rattle.solution.specs.Held.{numbers_of, routes}
 use Rattle.file_columns.specs.Put.{written}
 use Rattle.file_printing.proofs.Pieces.{vehicle-printed, vehicle-small, dash-printed, routes-few}
 use Rattle.file_printing.proofs.put_vehicle.Goals as goal
@@ -8,11 +8,12 @@ use Rattle.file_printing.proofs.put_vehicle.Goals as goal
 pub put_number-requires : goal.put_number-requires
 put_number-requires c =
     let found = c.find in
+    let p = c.args.plan.now in
     record {
       some = omega arith;
       few = omega arith;
-      fits = omega (arith, routes-few c.args.v c.args.plan.now, vehicle-small (decode c.args.v c.args.plan.now) c.args.stop found.result found.ensures _ c.in-Some.is, c.requires.sizes.vehicles);
-      room = c.requires.room;
+      fits = omega (arith, routes-few p.v (numbers_of p), vehicle-small (routes p) c.args.stop found.result found.ensures _ c.in-Some.is, p.sizes.vehicles);
+      room = c.requires;
     }
 
 pub returns-in-Some : goal.returns-in-Some

@@ -1,5 +1,5 @@
 use mathlib.Core.Path.{◌≡◌, sym}
-use Rattle.model.specs.Plan.{decode}
+use Rattle.solution.specs.Held.{routes}
 use Rattle.model.specs.TwoOpt.{set_route}
 use Rattle.model.proofs.Lists.{change-comm}
 use native.Mathlib.Omega.{arith}
@@ -7,19 +7,19 @@ use Rattle.joining.proofs.replace_two.Goals as goal
 use Rattle.joining.proofs.replace_two.Goals.{Start}
 
 -- which route is replaced first makes no difference
-exchanged : (s : Start) → let a = s.args in let P = decode a.v a.old.now in
+exchanged : (s : Start) → let a = s.args in let P = routes a.old.now in
     set_route a.b a.second.now (set_route a.a a.first.now P) ≡ set_route a.a a.first.now (set_route a.b a.second.now P)
 exchanged s =
     let a = s.args in
-    change-comm a.b a.a (λ _. a.second.now) (λ _. a.first.now) (decode a.v a.old.now) (λ e. s.requires.a_lt_v.2 (sym e))
+    change-comm a.b a.a (λ _. a.second.now) (λ _. a.first.now) (routes a.old.now) (λ e. s.requires.a_lt_v.2 (sym e))
 
 pub replace_in_order-requires : goal.replace_in_order-requires
 replace_in_order-requires c =
-    record { sizes = c.requires.sizes; lent = c.requires.lent; len = c.requires.len; a_lt_b = (omega arith, c.requires.a_lt_v.1); bound = c.requires.bound }
+    record { len = c.requires.len; a_lt_b = (omega arith, c.requires.a_lt_v.1); bound = c.requires.bound }
 
 pub replace_in_order-requires-else-a-b : goal.replace_in_order-requires-else-a-b
 replace_in_order-requires-else-a-b c =
-    record { sizes = c.requires.sizes; lent = c.requires.lent; len = c.requires.len; a_lt_b = (omega arith, c.requires.a_lt_v.0); bound = rw (exchanged (goal.at.replace_in_order-requires-else-a-b c).Start) at c.requires.bound }
+    record { len = c.requires.len; a_lt_b = (omega arith, c.requires.a_lt_v.0); bound = rw (exchanged (goal.at.replace_in_order-requires-else-a-b c).Start) at c.requires.bound }
 
 pub returns-then-a-b : goal.returns-then-a-b
 returns-then-a-b c = c.replace_in_order.ensures

@@ -1,9 +1,12 @@
 use Rattle.std.proofs.Common.{◌≡◌, Err}
-use mathlib.Core.Path.{refl, sym}
-use Rattle.model.specs.Job.{job_of}
+use mathlib.Core.Path.{refl, sym, ap, ◌∙◌}
+use native.Mathlib.Omega.{arith}
+use lib.ListN.{length}
+use Rattle.model.specs.Job.{of_lent}
 use Rattle.model.specs.Refusals.{Arguments, Solve, running}
 use Rattle.model.specs.Calls.{made}
-use Rattle.call_refusals.proofs.Accepted.{listed, affordable, drawable, smooth}
+use Rattle.call_refusals.proofs.Accepted.{listed, drawable, smooth}
+use Rattle.call_refusals.proofs.Held.{weighable}
 use Rattle.planner.proofs.Saying.{solves-refused, solves-accepted}
 use borrow.Author.Rules.{rules}
 use Rattle.planner.proofs.solve.Goals as goal
@@ -13,34 +16,35 @@ use Rattle.planner.proofs.solve.Goals.{After-of_solve}
 abbrev given : After-of_solve → Arguments
 given c =
     let a = c.args in
-    running (job_of a.vehicles.now a.stops.now a.locations a.distances.now a.prices) a.smoothing a.limit a.draws.now a.plan.now
+    running (of_lent a.job.now) a.settings.now.smoothing a.settings.now.limit a.settings.now.draws.now a.plan.now
 
 pub returns-in_err-of_solve : goal.returns-in_err-of_solve
 returns-in_err-of_solve c =
     let r : c.from_residual.result ≡ Err c.in_err-of_solve.field-0.0 = search rules in
     solves-refused (given (goal.at.returns-in_err-of_solve c).After-of_solve) _ _ r c.in_err-of_solve.ensures
 
-pub leg_table-requires : goal.leg_table-requires
-leg_table-requires c = ((listed Solve (given (goal.at.leg_table-requires c).After-of_solve) (sym c.in_ok-of_solve.ensures)).limits refl, search rules)
+pub tariff_of-tariff-requires : goal.tariff_of-tariff-requires
+tariff_of-tariff-requires c =
+    let A = given (goal.at.tariff_of-tariff-requires c).After-of_solve in
+    let e = sym c.in_ok-of_solve.ensures in
+    weighable Solve A e refl
 
 pub run-requires : goal.run-requires
 run-requires c =
     let A = given (goal.at.run-requires c).After-of_solve in
     let e = sym c.in_ok-of_solve.ensures in
-    let s = listed Solve A e in
-    record {
-      table = c.leg_table.ensures.legs;
-      sizes = s.sizes;
-      affordable = affordable Solve A e refl;
-      some = (drawable Solve A e refl).0;
-      smooth = (smooth Solve A e refl).0;
-      long = s.long;
-    }
+    record { sizes = (listed Solve A e).sizes; some = (drawable Solve A e refl).0; smooth = (smooth Solve A e refl).0 }
+
+pub copy_from_slice-requires : goal.copy_from_slice-requires
+copy_from_slice-requires c =
+    let s = listed Solve (given (goal.at.copy_from_slice-requires c).After-of_solve) (sym c.in_ok-of_solve.ensures) in
+    omega (arith, ap length c.form.ensures, c.run.result.0.lent.long, c.run.ensures.sizes, s.long)
 
 pub returns : goal.returns
 unfolding made
 returns c =
     let A = given (goal.at.returns c).After-of_solve in
     let e = sym c.in_ok-of_solve.ensures in
-    let d = c.run.ensures A.job (c.leg_table.ensures.fits A.job.prices) in
-    solves-accepted A _ _ e d.0 d.1
+    let t = c.tariff_of-tariff.ensures in
+    let d = c.run.ensures.ran A.job (rw t.1 (t.0.fits A.job.prices)) in
+    solves-accepted A _ _ e d.0 (c.copy_from_slice.ensures.after ∙ c.form.ensures ∙ d.1.form)

@@ -1,18 +1,14 @@
 -- The proof of the cycle of calls {reach}. The measure is the number of stops that are left.
-use mathlib.Core.Path.{◌≡◌}
 use lib.ListN.{length}
-use Rattle.model.specs.Plan.{decode}
 use Rattle.model.specs.StopSet.{stops_of}
 use Rattle.pruned.proofs.Reaching.{OnVehicles, OnStops}
 use Rattle.pruned.proofs.+reach.Given as goal
 
 abbrev pub invariant-loop-k : goal.invariant-loop-k
-invariant-loop-k l =
-    (length l.next ≡ 9) × OnVehicles l.legs l.v l.n l.prices (decode l.v l.plan) (stops_of l.left) l.stop l.initial.best l.best l.found l.k
+invariant-loop-k l = OnVehicles l.tariff l.plan (stops_of l.left) l.stop l.initial.best l.best l.found l.k
 
 abbrev pub invariant-loop-rest : goal.invariant-loop-rest
-invariant-loop-rest l =
-    (length l.next ≡ 9) × OnStops l.legs l.v l.n l.prices (decode l.v l.plan) l.left l.initial.best l.best l.found l.rest
+invariant-loop-rest l = OnStops l.tariff l.plan l.left l.initial.best l.best l.found l.rest
 
 abbrev pub decreases-loop-rest : goal.decreases-loop-rest
 decreases-loop-rest l = length (stops_of l.rest)

@@ -4,10 +4,9 @@ use Rattle.pruned.proofs.consider.Goals as goal
 pub returns-then-prefers : goal.returns-then-prefers
 returns-then-prefers c =
     let a = c.args in
-    kept_new a.v a.n a.plan.now a.cost a.best.now a.least c.prefers.result c.prefers.ensures c.copy_plan.new.to
-    c.if-prefers.true c.copy_plan.ensures
+    kept_new a.plan.now a.cost a.best.now a.least c.prefers.result c.prefers.ensures c.if-prefers.true
 
 pub returns : goal.returns
 returns c =
     let a = c.args in
-    kept-old a.v a.n a.plan.now a.cost a.best.now a.least c.prefers.result c.prefers.ensures c.if-prefers.false
+    kept-old a.plan.now a.cost a.best.now a.least c.prefers.result c.prefers.ensures c.if-prefers.false

@@ -1,6 +1,5 @@
 use Prim.Native.Nat.{ℕ, ◌-◌}
 use mathlib.Core.Path.{refl, ap, ◌∙◌}
-use native.Mathlib.Omega.{arith}
 use lib.ListN.{get_or}
 use Rattle.rebuild_tables.specs.declared.Frame.{Frame}
 use Rattle.rebuild_tables.specs.Frame.{Framing}
@@ -11,7 +10,7 @@ use Rattle.rebuild_arrange.proofs.arrange_gaps.Goals.{After-fill-own}
 abbrev frame : After-fill-own → Frame
 frame c = c.fill-own.result.frame
 
-abbrev framing : (c : After-fill-own) → Framing c.args.plan.now c.args.v c.args.n c.args.regions.now (frame c)
+abbrev framing : (c : After-fill-own) → Framing c.args.plan.now c.args.regions.now (frame c)
 framing c = c.fill-own.ensures.framing
 
 pub fill-own-requires : goal.fill-own-requires
@@ -19,29 +18,29 @@ fill-own-requires c = (c.requires.arrangeable.0.gapped, c.requires.arrangeable.1
 
 pub table_ways-ways-requires : goal.table_ways-ways-requires
 table_ways-ways-requires c =
-    record { plan = c.requires.arrangeable.0; framing = framing (goal.at.table_ways-ways-requires c).After-fill-own; near = c.fill-own.ensures.stops_small; cost = c.requires.cost_value.0 }
+    record { plan = c.requires.arrangeable.0; framing = framing (goal.at.table_ways-ways-requires c).After-fill-own; near = c.fill-own.ensures.stops_small; cost = c.requires.cost_value }
 
 pub others_of-others-requires : goal.others_of-others-requires
 others_of-others-requires c =
     let a = c.args in
-    addable a.legs.now a.v a.n a.prices a.plan.now a.regions.now c.requires.arrangeable.0 (frame (goal.at.others_of-others-requires c).After-fill-own) (framing (goal.at.others_of-others-requires c).After-fill-own) c.table_ways-ways.result c.table_ways-ways.ensures
+    addable a.tariff.now a.plan.now a.regions.now c.requires.arrangeable.0 (frame (goal.at.others_of-others-requires c).After-fill-own) (framing (goal.at.others_of-others-requires c).After-fill-own) c.table_ways-ways.result c.table_ways-ways.ensures
     c.gaps-p.result c.gaps-p.ensures c.drained.result c.drained.ensures
 
 pub visit-found-requires : goal.visit-found-requires
 visit-found-requires c =
     let a = c.args in
-    visitable a.legs.now a.v a.n a.prices a.plan.now a.regions.now c.requires.arrangeable.0 (frame (goal.at.visit-found-requires c).After-fill-own) (framing (goal.at.visit-found-requires c).After-fill-own) c.table_ways-ways.result c.table_ways-ways.ensures
-    c.new-kept.result (c.new-kept.ensures.word ∙ c.fill-own.ensures.value) (c.new-kept.ensures.placed ∙ c.placed.ensures) c.new-kept.ensures.uncalled a.cost c.requires.cost_value.0 c.others_of-others.result c.gaps-p.result c.drained.result
+    visitable a.tariff.now a.plan.now a.regions.now c.requires.arrangeable.0 (frame (goal.at.visit-found-requires c).After-fill-own) (framing (goal.at.visit-found-requires c).After-fill-own) c.table_ways-ways.result c.table_ways-ways.ensures
+    c.new-kept.result (c.new-kept.ensures.word ∙ c.fill-own.ensures.value) (c.new-kept.ensures.placed ∙ c.placed.ensures) c.new-kept.ensures.uncalled a.cost c.requires.cost_value c.others_of-others.result c.gaps-p.result c.drained.result
     c.gaps-p.ensures c.drained.ensures c.others_of-others.ensures
 
 pub plan_of-requires : goal.plan_of-requires
 plan_of-requires c =
-    ((framing (goal.at.plan_of-requires c).After-fill-own).framed, c.visit-found.ensures.held.word, omega (arith, (framing (goal.at.plan_of-requires c).After-fill-own).routes, (framing (goal.at.plan_of-requires c).After-fill-own).total, c.requires.cost_value.1))
+    ((framing (goal.at.plan_of-requires c).After-fill-own).framed, c.visit-found.ensures.held.word)
 
 pub returns : goal.returns
 returns c =
     let a = c.args in
-    visited-arranged a.legs.now a.v a.n a.prices a.plan.now a.regions.now c.requires.arrangeable.0 (frame (goal.at.returns c).After-fill-own) (framing (goal.at.returns c).After-fill-own) c.table_ways-ways.result c.table_ways-ways.ensures
-    c.new-kept.result (c.new-kept.ensures.word ∙ c.fill-own.ensures.value) (c.new-kept.ensures.placed ∙ c.placed.ensures) c.new-kept.ensures.uncalled a.cost c.requires.cost_value.0 c.others_of-others.result c.gaps-p.result c.drained.result
+    visited-arranged a.tariff.now a.plan.now a.regions.now c.requires.arrangeable.0 (frame (goal.at.returns c).After-fill-own) (framing (goal.at.returns c).After-fill-own) c.table_ways-ways.result c.table_ways-ways.ensures
+    c.new-kept.result (c.new-kept.ensures.word ∙ c.fill-own.ensures.value) (c.new-kept.ensures.placed ∙ c.placed.ensures) c.new-kept.ensures.uncalled a.cost c.requires.cost_value c.others_of-others.result c.gaps-p.result c.drained.result
     c.gaps-p.ensures c.drained.ensures c.others_of-others.ensures c.visit-found.new.kept c.visit-found.result c.visit-found.ensures _ c.plan_of.ensures _ refl refl
     (ap (λ (g : ℕ). get_or c.visit-found.new.kept.calls (g - 1) 0) c.gaps-p.ensures)

@@ -14,34 +14,34 @@ use Rattle.rebuild_arrange.proofs.base_of.Goals as goal
 
 pub loop-region-init : goal.loop-region-init
 loop-region-init c =
-    left-none c.args.legs.now c.args.v c.args.n c.args.prices c.args.plan.now c.args.regions.now c.requires.arrangeable c.args.cost c.requires.cost_value
+    left-none c.args.tariff.now c.args.plan.now c.args.regions.now c.requires.arrangeable c.args.cost c.requires.cost_value
 
 pub route-route-requires : goal.route-route-requires
 route-route-requires c =
     let a = c.args in
-    let u = turn-of a.v a.n a.plan.now a.regions.now c.requires.arrangeable.gapped c.loop-region.region-index (omega arith) in
-    record { sizes = c.requires.arrangeable.gapped.sizes; lent = c.requires.arrangeable.gapped.plan; k_lt_v = u.known }
+    let u = turn-of a.plan.now a.regions.now c.requires.arrangeable.gapped c.loop-region.region-index (omega arith) in
+    u.known
 
 pub route_length-length-requires : goal.route_length-length-requires
 route_length-length-requires c =
     let a = c.args in
-    let u = turn-of a.v a.n a.plan.now a.regions.now c.requires.arrangeable.gapped c.loop-region.region-index (omega arith) in
-    (c.requires.arrangeable.legs, omega (arith, u.known, u.narrow), subst Drivable (sym c.route-route.ensures) u.drivable)
+    let u = turn-of a.plan.now a.regions.now c.requires.arrangeable.gapped c.loop-region.region-index (omega arith) in
+    (omega (arith, u.known, u.narrow), subst Drivable (sym c.route-route.ensures) u.drivable)
 
 pub price-rest-requires : goal.price-rest-requires
-price-rest-requires c = (omega (arith, c.route_length-length.ensures.small), c.requires.arrangeable.prices)
+price-rest-requires c = (omega (arith, c.route_length-length.ensures.small), c.args.tariff.now.affordable)
 
 pub loop-region-preserved : goal.loop-region-preserved
 loop-region-preserved c =
     let a = c.args in
     let l = c.loop-region in
     let k = (get_or a.regions.now l.region-index no_region).vehicle in
-    let d = c.route_length-length.ensures.way ∙ ap (λ (r : Route). table_legs a.legs.now (depot k) r (depot k)) c.route-route.ensures in
-    left-more a.legs.now a.v a.n a.prices a.plan.now a.regions.now c.requires.arrangeable l.region-index l.rest l.invariant (omega arith)
-    c.price-rest.result (c.price-rest.ensures ∙ ap (λ (x : ℕ). whole (price a.prices x)) d)
+    let d = c.route_length-length.ensures.way ∙ ap (λ (r : Route). table_legs a.tariff.now.legs.table (depot k) r (depot k)) c.route-route.ensures in
+    left-more a.tariff.now a.plan.now a.regions.now c.requires.arrangeable l.region-index l.rest l.invariant (omega arith)
+    c.price-rest.result (c.price-rest.ensures ∙ ap (λ (x : ℕ). whole (price a.tariff.now.prices x)) d)
 
 pub returns : goal.returns
 returns c =
     let l = c.loop-region in
-    left-all c.args.legs.now c.args.v c.args.n c.args.prices c.args.plan.now c.args.regions.now c.requires.arrangeable l.region-index l.rest l.invariant
+    left-all c.args.tariff.now c.args.plan.now c.args.regions.now c.requires.arrangeable l.region-index l.rest l.invariant
     (omega arith)

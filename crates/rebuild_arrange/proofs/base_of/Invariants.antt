@@ -3,4 +3,4 @@ use Rattle.rebuild_arrange.proofs.Base.{Left}
 use Rattle.rebuild_arrange.proofs.base_of.Given as goal
 
 abbrev pub invariant-loop-region : goal.invariant-loop-region
-invariant-loop-region l = Left l.legs l.v l.n l.prices l.plan l.regions l.region-index l.rest
+invariant-loop-region l = Left l.tariff l.plan l.regions l.region-index l.rest

@@ -11,22 +11,22 @@ gaps c = c.survey.new.gaps
 
 pub ends_of-starts-requires : goal.ends_of-starts-requires
 ends_of-starts-requires c =
-    starts-near c.args.legs.now c.args.v c.args.n c.args.prices c.args.plan.now c.args.regions.now c.args.frame.now c.args.cost c.requires
+    starts-near c.args.tariff.now c.args.plan.now c.args.regions.now c.args.frame.now c.args.cost c.requires
     (gaps (goal.at.ends_of-starts-requires c).After-survey) c.survey.ensures.surveyed c.survey.ensures.unsurveyed
 
 pub ends_of-ends-requires : goal.ends_of-ends-requires
 ends_of-ends-requires c =
-    ends-near c.args.legs.now c.args.v c.args.n c.args.prices c.args.plan.now c.args.regions.now c.args.frame.now c.args.cost c.requires
+    ends-near c.args.tariff.now c.args.plan.now c.args.regions.now c.args.frame.now c.args.cost c.requires
     (gaps (goal.at.ends_of-ends-requires c).After-survey) c.survey.ensures.surveyed c.survey.ensures.unsurveyed
 
 pub filled-requires : goal.filled-requires
 filled-requires c =
-    fillable c.args.legs.now c.args.v c.args.n c.args.prices c.args.plan.now c.args.regions.now c.args.frame.now c.args.cost c.requires
+    fillable c.args.tariff.now c.args.plan.now c.args.regions.now c.args.frame.now c.args.cost c.requires
     (gaps (goal.at.filled-requires c).After-survey) c.survey.ensures.surveyed c.survey.ensures.unsurveyed c.ends_of-starts.result c.ends_of-ends.result c.ends_of-starts.ensures c.ends_of-ends.ensures
     c.base_of-base.result c.base_of-base.ensures (length c.args.regions.now) refl
 
 pub returns : goal.returns
 returns c =
-    tells c.args.legs.now c.args.v c.args.n c.args.prices c.args.plan.now c.args.regions.now c.args.frame.now c.args.cost c.requires
+    tells c.args.tariff.now c.args.plan.now c.args.regions.now c.args.frame.now c.args.cost c.requires
     (gaps (goal.at.returns c).After-survey) c.survey.ensures.surveyed c.survey.ensures.unsurveyed c.ends_of-starts.result c.ends_of-ends.result c.ends_of-starts.ensures c.ends_of-ends.ensures
     c.base_of-base.result c.base_of-base.ensures (length c.args.regions.now) refl c.filled.result c.filled.ensures

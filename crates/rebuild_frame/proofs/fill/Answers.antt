@@ -10,17 +10,15 @@ pub returns : goal.returns
 returns c =
     let a = c.args in
     let l = c.list_stops-listed in
-    let K : Parts a.plan.now a.v a.n a.regions.now _ = record {
+    let K : Parts a.plan.now a.regions.now _ = record {
       gaps = refl;
-      routes = refl;
-      total = refl;
       on_routes = c.size.ensures.digits ∙ c.placed_set.ensures.size;
       off_routes = l.ensures.number;
       spans = ap (λ xs. xs ++ drop (length a.regions.now) (replicate 3 no_region)) c.copy_from_slice.ensures.after;
-      lent = ap (λ xs. xs ++ drop (length a.plan.now) (replicate 80 0)) c.copy_from_slice-2.ensures.after;
+      same = refl;
       listed = l.ensures.holds;
     } in record {
-      framing = framing a.plan.now a.v a.n a.regions.now c.requires.0 c.requires.2 _ K c.requires.1;
+      framing = framing a.plan.now a.regions.now c.requires.0 c.requires.2 _ K c.requires.1;
       value = l.ensures.says;
-      stops_small = small-parts a.plan.now a.v a.n a.regions.now c.requires.0 c.requires.2 _ K;
+      stops_small = small-parts a.plan.now a.regions.now c.requires.0 c.requires.2 _ K;
     }

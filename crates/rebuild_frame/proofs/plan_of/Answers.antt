@@ -1,20 +1,12 @@
--- The parts of the frame that `compose` is lent are the plan and the regions, and the codes say what the word says.
-use lib.ListN.{take}
-use Rattle.rebuild_frame.proofs.Plans.{parts-gapped, parts-few, parts-form}
+-- What is written is lent again.
+use mathlib.Core.Path.{refl}
+use Rattle.rebuild_frame.proofs.Plans.{form-lent}
 use Rattle.rebuild_frame.proofs.plan_of.Goals as goal
 
-pub compose-requires : goal.compose-requires
-compose-requires c =
-    let k = c.codes_of-m in
+pub invariant_of-result : goal.invariant_of-result
+invariant_of-result c =
     let f = c.args.frame.now in
-    let p = c.gaps-p in
-    record {
-      gapped = parts-gapped f c.requires.0 c.args.word c.requires.1 p.result p.ensures;
-      to_len = (c.requires.2, parts-few f c.requires.0 c.args.word c.requires.1 p.result p.ensures (take k.result k.new.codes) k.ensures.0);
-    }
+    record { sizes = f.plan.sizes; lent = rw c.write_form.ensures (form-lent f c.requires.0 c.args.word c.requires.1) }
 
 pub returns : goal.returns
-returns c =
-    let k = c.codes_of-m in
-    let p = c.gaps-p in
-    parts-form c.args.frame.now c.requires.0 c.args.word c.requires.1 p.result p.ensures (take k.result k.new.codes) k.ensures.0 _ c.compose.ensures
+returns c = record { vehicles = refl; stops = refl; form = c.write_form.ensures }

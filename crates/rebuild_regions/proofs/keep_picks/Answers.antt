@@ -2,7 +2,8 @@ use native.Mathlib.Omega.{arith}
 use mathlib.Core.Path.{refl, sym, ◌∙◌}
 use Prim.Native.Nat.{◌<◌}
 use lib.ListN.{get_or}
-use Rattle.model.specs.Plan.{decode, vehicle_of}
+use Rattle.model.specs.Plan.{vehicle_of}
+use Rattle.solution.specs.Held.{routes}
 use Rattle.model.proofs.Locate.{vehicle-lt}
 use Rattle.model.proofs.PlanForm.{lent_length}
 use Rattle.rebuild_regions.proofs.Places.{vehicle-there, vehicle_nowhere}
@@ -11,16 +12,16 @@ use Rattle.rebuild_regions.proofs.keep_picks.Goals as goal
 use Rattle.rebuild_regions.proofs.keep_picks.Goals.{In-Some, in-Some+then-not-contains, in-Some+else-not-contains, in_default}
 
 pub loop-pick-init : goal.loop-pick-init
-loop-pick-init c = kept-none (decode c.args.v c.args.plan.now) c.args.picks.now c.args.kept.now
+loop-pick-init c = kept-none (routes c.args.plan.now) c.args.picks.now c.args.kept.now
 
 -- the vehicle of a pick that is placed
 small : (c : In-Some) → c.in-Some.k < 64
 small c =
     let a = c.args in
-    let P = decode a.v a.plan.now in
+    let P = routes a.plan.now in
     let s = get_or a.picks.now c.loop-pick.pick-index 0 in
     let k = vehicle-there s P c.vehicle_of.result c.vehicle_of.ensures c.in-Some.k c.in-Some.is in
-    omega (arith, k.1, vehicle-lt s P k.0, lent_length a.v a.n a.plan.now c.requires.1, c.requires.0.vehicles)
+    omega (arith, k.1, vehicle-lt s P k.0, lent_length a.plan.now.v a.plan.now.n _ a.plan.now.lent, a.plan.now.sizes.vehicles)
 
 pub overflow_cast-vehicle : goal.overflow_cast-vehicle
 overflow_cast-vehicle c = omega (arith, small (goal.at.overflow_cast-vehicle c).In-Some)
@@ -34,14 +35,14 @@ with-named-requires c = omega (arith, small (goal.at.with-named-requires c).In-S
 pub loop-pick-preserved : goal.loop-pick-preserved
 loop-pick-preserved c =
     let a = c.args in
-    let P = decode a.v a.plan.now in
+    let P = routes a.plan.now in
     let s = get_or a.picks.now c.loop-pick.pick-index 0 in
     let j = c.match-vehicle_of in
     elim j.branch [
       | in-Some+then-not-contains w ↦
           let k = vehicle-there s P c.vehicle_of.result c.vehicle_of.ensures w.in-Some.k w.in-Some.is in
           kept_more c.loop-pick.invariant (omega arith) w.in-Some.k k.1 j.kept j.named j.p
-          c.requires.2 k.0 (sym w.contains.ensures ∙ w.if-not-contains.true) w.kept-is (w.named-is ∙ w.with-named.ensures) w.p-is
+          c.requires k.0 (sym w.contains.ensures ∙ w.if-not-contains.true) w.kept-is (w.named-is ∙ w.with-named.ensures) w.p-is
       | in-Some+else-not-contains w ↦
           let k = vehicle-there s P c.vehicle_of.result c.vehicle_of.ensures w.in-Some.k w.in-Some.is in
           kept-named c.loop-pick.invariant (omega arith) w.in-Some.k k.1 j.kept j.named j.p

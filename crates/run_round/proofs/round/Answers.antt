@@ -1,21 +1,21 @@
 use mathlib.Core.Path.{refl}
 use native.Mathlib.Omega.{arith}
 use lib.ListN.{length-take}
-use Rattle.run_round.proofs.Steps.{ready, part-row, part-picks, row-lent, rounded}
+use Rattle.run_round.proofs.Steps.{part-row, part-picks, row-lent, rounded}
 use Rattle.run_round.proofs.round.Goals as goal
 
 pub pass-requires : goal.pass-requires
 pass-requires c =
-    let a = c.args in record { ready = ready c.requires.course c.requires.standing.0.lent; once = row-lent a.legs.now a.v a.n a.prices a.near.now a.draws.now a.smoothing c.requires.course c.among-row.result c.among-row.ensures.1 }
+    let a = c.args in row-lent a.tariff.now a.plan.now.n a.near.now a.draws.now a.smoothing c.requires.course c.among-row.result c.among-row.ensures.1
 
 pub pick-k-requires : goal.pick-k-requires
 pick-k-requires c =
     let k = c.requires.course in
     record {
       several = k.several;
-      few = k.sizes.stops;
+      few = c.args.plan.now.sizes.stops;
       long = k.long;
-      legs = c.args.legs.now;
+      legs = c.args.tariff.now.legs.table;
       rows = k.rows;
       some = k.some;
       early = omega (arith, c.requires.standing);
@@ -23,8 +23,7 @@ pick-k-requires c =
     }
 
 pub rebuild-walk-requires : goal.rebuild-walk-requires
-rebuild-walk-requires c =
-    (ready c.requires.course c.pass.ensures.lent, simp length-take (omega (arith, c.pick-k.ensures.at_most)))
+rebuild-walk-requires c = simp length-take (omega (arith, c.pick-k.ensures.at_most))
 
 pub counted-requires : goal.counted-requires
 counted-requires c =
@@ -42,6 +41,6 @@ returns c =
     let k = c.pick-k in
     let x = c.among-row in
     let a = c.args in
-    rounded a.legs.now a.v a.n a.prices a.near.now a.draws.now a.smoothing c.requires.course
-    _ _ _ _ _ _ _ x.result _ _ a.p _ c.requires.standing.0 x.ensures.0 x.ensures.1 (part-row x.result a.n a.near.now) c.pass.ensures.plan_after
+    rounded a.tariff.now a.near.now a.draws.now a.smoothing a.plan.now c.requires.course
+    _ _ _ _ _ _ x.result _ _ a.p _ c.requires.standing.0 x.ensures.0 x.ensures.1 (part-row x.result a.plan.now.n a.near.now) c.pass.ensures.plan_after c.pass.ensures.sizes
     k.ensures (part-picks k.result k.new.picks) c.rebuild-walk.ensures c.counted.ensures

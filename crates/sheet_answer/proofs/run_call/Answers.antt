@@ -1,6 +1,6 @@
 use Rattle.std.proofs.Common.{[], refl, sym, ap, arith}
 use Rattle.sheet_head.specs.Numbered.{number_of_call}
-use Rattle.file_job.proofs.Held.{take-replicate}
+use Rattle.std.proofs.lemmas.List.{take-replicate}
 use Rattle.sheet_answer.proofs.Ran.{ran-weigh, ran-start, ran-two-opt, ran-rebuild, ran-exhaustive, ran-pruned, ran-solve, ran-arrive, ran-cancel, ran-view, ran_move, ran-roadworks}
 use Rattle.sheet_answer.proofs.Seen.{lent_length, lent-printable}
 use Rattle.sheet_answer.proofs.run_call.Goals as goal

@@ -1,20 +1,24 @@
-use Rattle.std.proofs.Common.{◌∙◌, sym, arith}
+use Rattle.std.proofs.Common.{◌∙◌, sym}
 use Rattle.planner.proofs.Ran.{ran-sizes, ran-priced, ran-lent}
-use Rattle.shuttle_answers.proofs.Laws.{refused-printed, run-printed}
+use Rattle.shuttle_answers.proofs.Laws.{lent-blank, refused-printed, run-printed}
 use Rattle.shuttle_answers.proofs.run.Goals as goal
 
-pub print_run-requires : goal.print_run-requires
-print_run-requires c =
+pub hold-requires : goal.hold-requires
+hold-requires c =
     let e = sym c.in-Ok.is ∙ c.solve.ensures.answer in
-    record {
-      printable = record { sizes = ran-sizes _ _ e; form = ran-lent _ _ e _ c.solve.ensures.plan; room = omega (arith, c.requires.stops, c.requires.room) };
-      priced = ran-priced _ _ e;
-    }
+    (ran-sizes _ _ e, ran-lent _ _ e _ c.solve.ensures.plan)
 
-pub returns-in-Err : goal.returns-in-Err
-returns-in-Err c =
-    refused-printed _ _ _ _ _ c.requires.blank _ c.solve.ensures.answer _ _ _ _ c.in-Err.is (rw c.from.ensures at c.print_refusal.ensures)
+pub print_run-requires-clause-priced : goal.print_run-requires-clause-priced
+print_run-requires-clause-priced c = ran-priced _ _ (sym c.in-Ok.is ∙ c.solve.ensures.answer)
 
 pub returns-in-Ok : goal.returns-in-Ok
 returns-in-Ok c =
-    run-printed _ _ _ _ _ c.requires.blank _ c.solve.ensures.answer _ _ _ _ _ c.in-Ok.is c.solve.ensures.plan c.print_run.ensures
+    let f = c.solve.ensures in
+    let h = c.hold.ensures in
+    run-printed c.args.task.now _ _ _ _ _ c.job-job.ensures c.settings-settings.ensures
+    (lent-blank c.args.task.now _ c.job-job.ensures) _ f.answer _ _ _ _ _ c.in-Ok.is f.plan c.hold.result h.0 h.1 h.2 c.print_run.ensures
+
+pub returns-in-Err : goal.returns-in-Err
+returns-in-Err c =
+    refused-printed c.args.task.now _ _ _ _ _ c.job-job.ensures c.settings-settings.ensures
+    (lent-blank c.args.task.now _ c.job-job.ensures) _ c.solve.ensures.answer _ _ _ _ c.in-Err.is (rw c.from.ensures at c.print_refusal.ensures)

@@ -5,4 +5,4 @@ use Rattle.two_opt.proofs.Turns.{SoFar}
 use Rattle.two_opt.proofs.all_pairs.Given as goal
 
 abbrev pub invariant-loop-i : goal.invariant-loop-i
-invariant-loop-i l = SoFar l.legs l.v l.n l.prices l.initial.plan (pairs l.stops) l.plan (pairs (drop l.i l.stops))
+invariant-loop-i l = SoFar l.tariff l.initial.plan (pairs l.stops) l.plan (pairs (drop l.i l.stops))

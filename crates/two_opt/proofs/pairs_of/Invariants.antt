@@ -5,4 +5,4 @@ use Rattle.two_opt.proofs.pairs_of.Given as goal
 
 abbrev pub invariant-loop-j : goal.invariant-loop-j
 invariant-loop-j l =
-    SoFar l.legs l.v l.n l.prices l.initial.plan (pairs_of l.i l.stops) l.plan (pairs_with l.s l.stops l.j)
+    SoFar l.tariff l.initial.plan (pairs_of l.i l.stops) l.plan (pairs_with l.s l.stops l.j)

@@ -4,11 +4,11 @@ use Rattle.two_opt.proofs.Turns.{ten, first-ten}
 use Rattle.two_opt.proofs.pass.Goals as goal
 
 pub all_pairs-requires : goal.all_pairs-requires
-all_pairs-requires c = record { ready = c.requires.ready; once = once-take c.args.near.now c.requires.once c.min-few.result }
+all_pairs-requires c = once-take c.args.near.now c.requires c.min-few.result
 
 pub returns : goal.returns
 returns c =
     let a = c.args in
     let e = c.all_pairs.ensures in
-    let l = first-ten a.legs.now a.v a.n a.prices a.plan.now a.near.now _ c.min-few.result c.min-few.ensures e.plan_after in
-    record { plan_after = ten a.legs.now a.v a.n a.prices a.plan.now a.near.now _ l; lent = e.lent; plan_after_2 = l }
+    let l = first-ten a.tariff.now a.plan.now a.near.now _ c.min-few.result c.min-few.ensures e.plan_after in
+    record { plan_after = ten a.tariff.now a.plan.now a.near.now _ l; sizes = e.sizes; plan_after_2 = l }

@@ -11,4 +11,4 @@ weighed-requires c = (joins-tails (exchange c.requires.0), c.weighed-tails.ensur
 pub returns : goal.returns
 returns c =
     let a = c.args in
-    (c.weighed.ensures.0, two-tried a.legs.now a.prices a.x a.y a.code (found a.best) c.weighed-tails.ensures.1 c.weighed.ensures.1)
+    (c.weighed.ensures.0, two-tried a.tariff.now.legs.table a.tariff.now.prices a.x a.y a.code (found a.best) c.weighed-tails.ensures.1 c.weighed.ensures.1)

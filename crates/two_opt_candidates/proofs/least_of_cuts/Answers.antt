@@ -20,5 +20,5 @@ least_of_turns-requires c =
 pub returns : goal.returns
 returns c =
     let a = c.args in
-    all-tried a.legs.now a.prices a.x a.y c.reversed-p.ensures c.reversed-q.ensures (weighs-amount c.pair_price-price.ensures)
+    all-tried a.tariff.now.legs.table a.tariff.now.prices a.x a.y c.reversed-p.ensures c.reversed-q.ensures (weighs-amount c.pair_price-price.ensures)
     c.least_of_turns-none.ensures.1 c.least_of_turns-second.ensures.1 c.least_of_turns-first.ensures.1 c.least_of_turns.ensures.1

@@ -28,6 +28,6 @@ pub returns : goal.returns
 returns c =
     let a = c.args in (
       c.exchanged.ensures.0,
-      ten-tried a.legs.now a.prices a.x a.y a.code (found a.best) c.weighed-kept.ensures.1 c.exchanged-ends.ensures.1 c.weighed-whole.ensures.1
+      ten-tried a.tariff.now.legs.table a.tariff.now.prices a.x a.y a.code (found a.best) c.weighed-kept.ensures.1 c.exchanged-ends.ensures.1 c.weighed-whole.ensures.1
           c.exchanged-one.ensures.1 c.exchanged-two.ensures.1 c.exchanged.ensures.1,
     )

@@ -16,10 +16,10 @@ use Rattle.two_opt_cuts.proofs.cut_at.Goals as goal
 use Rattle.two_opt_cuts.proofs.cut_at.Goals.{After-ends_along-up, After-ends_along-down}
 
 -- the head and the tail beside the stop
-head : (c : After-ends_along-up) → let a = c.args in EndsOf a.legs.now a.a a.b (take a.i a.route.now) c.ends_along-up.result
+head : (c : After-ends_along-up) → let a = c.args in EndsOf a.legs.now.table a.a a.b (take a.i a.route.now) c.ends_along-up.result
 head c = c.ends_along-up.ensures (take c.args.i c.args.route.now) (YieldsList-from_slice (take c.args.i c.args.route.now) c.iter.ensures.rest).runs
 
-tail : (c : After-ends_along-down) → let a = c.args in EndsOf a.legs.now a.a a.b (reverse (drop (a.i + 1) a.route.now)) c.ends_along-down.result
+tail : (c : After-ends_along-down) → let a = c.args in EndsOf a.legs.now.table a.a a.b (reverse (drop (a.i + 1) a.route.now)) c.ends_along-down.result
 tail c =
     let xs = drop (c.args.i + 1) c.args.route.now in
     c.ends_along-down.ensures (reverse xs)
@@ -30,7 +30,7 @@ ends_along-up-requires c κs =
     let a = c.args in
     let Q = c.requires in
     let xs = take a.i a.route.now in
-    (search rules, ((Q.0, Q.1, Q.2), ((tt, tt), (xs, (YieldsList-from_slice xs c.iter.ensures.rest).runs, drivable-take a.i a.route.now Q.3))))
+    (search rules, ((Q.0, Q.1), ((tt, tt), (xs, (YieldsList-from_slice xs c.iter.ensures.rest).runs, drivable-take a.i a.route.now Q.2))))
 
 pub ends_along-down-requires : goal.ends_along-down-requires
 ends_along-down-requires c κs =
@@ -38,23 +38,21 @@ ends_along-down-requires c κs =
     let Q = c.requires in
     let xs = drop (a.i + 1) a.route.now in
     let e = ap iter_rest c.rev.ensures.source ∙ c.iter-2.ensures.rest ∙ part_end (a.i + 1) a.route.now in
-    (search rules, ((Q.0, Q.1, Q.2), ((tt, tt), (reverse xs, (YieldsList-from_rev_slice xs e).runs, drivable-reverse xs (drivable-drop (a.i + 1) a.route.now Q.3)))))
+    (search rules, ((Q.0, Q.1), ((tt, tt), (reverse xs, (YieldsList-from_rev_slice xs e).runs, drivable-reverse xs (drivable-drop (a.i + 1) a.route.now Q.2)))))
 
 pub with_stop-upto-requires : goal.with_stop-upto-requires
 with_stop-upto-requires c =
     let a = c.args in (
-      c.requires.0,
-      head-room a.legs.now a.a a.b a.route.now a.i c.requires.0 c.requires.1 c.requires.2 c.requires.3 c.requires.4 (head (goal.at.with_stop-upto-requires c).After-ends_along-up),
-      below_at 64 a.route.now a.i c.requires.3.stops c.requires.4,
+      head-room a.legs.now.table a.a a.b a.route.now a.i a.legs.now.lengths c.requires.0 c.requires.1 c.requires.2 c.requires.3 (head (goal.at.with_stop-upto-requires c).After-ends_along-up),
+      below_at 64 a.route.now a.i c.requires.2.stops c.requires.3,
     )
 
 pub with_stop-from-requires : goal.with_stop-from-requires
 with_stop-from-requires c =
     let a = c.args in (
-      c.requires.0,
-      tail-room a.legs.now a.a a.b a.route.now (a.i + 1) c.requires.0 c.requires.1 c.requires.2 c.requires.3 (omega arith) (omega arith)
+      tail-room a.legs.now.table a.a a.b a.route.now (a.i + 1) a.legs.now.lengths c.requires.0 c.requires.1 c.requires.2 (omega arith) (omega arith)
           (tail (goal.at.with_stop-from-requires c).After-ends_along-down),
-      below_at 64 a.route.now a.i c.requires.3.stops c.requires.4,
+      below_at 64 a.route.now a.i c.requires.2.stops c.requires.3,
     )
 
 pub returns : goal.returns
@@ -62,6 +60,6 @@ returns c =
     let a = c.args in
     let up = head (goal.at.returns c).After-ends_along-up in
     let down = tail (goal.at.returns c).After-ends_along-down in (
-      record { head = up; tail = tail_more a.legs.now a.a a.b a.route.now a.i c.requires.4 (c.with_stop-from.ensures a.a a.b _ down) },
-      record { head = head_more a.legs.now a.a a.b a.route.now a.i c.requires.4 (c.with_stop-upto.ensures a.a a.b _ up); tail = down },
+      record { head = up; tail = tail_more a.legs.now.table a.a a.b a.route.now a.i c.requires.3 (c.with_stop-from.ensures a.a a.b _ down) },
+      record { head = head_more a.legs.now.table a.a a.b a.route.now a.i c.requires.3 (c.with_stop-upto.ensures a.a a.b _ up); tail = down },
     )

@@ -8,7 +8,7 @@ loop-stop-init g c =
     let a = c.args in
     let R = c.requires in
     rw c.into_iter-stop-iterator.ensures.into_iter_gives
-    (R.next.0, R.next.1, λ xs m. walk_start g.I.Iterator.next_gives (λ s. s.now) a.legs.now a.a a.b xs m (c.empty.ensures a.legs.now, c.empty-2.ensures a.legs.now))
+    (R.next.0, R.next.1, λ xs m. walk_start g.I.Iterator.next_gives (λ s. s.now) a.legs.now.table a.a a.b xs m (c.empty.ensures a.legs.now.table, c.empty-2.ensures a.legs.now.table))
 
 pub with_stop-ends-requires : goal.with_stop-ends-requires
 with_stop-ends-requires g c =
@@ -16,9 +16,8 @@ with_stop-ends-requires g c =
     let xs = R.gives.0 in
     let W = c.loop-stop.invariant.2 xs (rw (sym c.into_iter-stop-iterator.ensures.into_iter_gives) at R.gives.1) in
     let h = c.in-Some.ensures.steps in (
-      R.ready.0,
-      walk-room g.I.Iterator.next_gives (λ s. s.now) c.args.legs.now c.args.a c.args.b xs W h R.gives.2 R.ready.0 R.ready.1 R.ready.2,
-      walk-stop g.I.Iterator.next_gives (λ s. s.now) c.args.legs.now c.args.a c.args.b xs W h R.gives.2,
+      walk-room g.I.Iterator.next_gives (λ s. s.now) c.args.legs.now.table c.args.a c.args.b xs W h R.gives.2 c.args.legs.now.lengths R.ready.0 R.ready.1,
+      walk-stop g.I.Iterator.next_gives (λ s. s.now) c.args.legs.now.table c.args.a c.args.b xs W h R.gives.2,
     )
 
 pub loop-stop-preserved : goal.loop-stop-preserved
@@ -27,10 +26,10 @@ loop-stop-preserved g c =
       search rules,
       search rules,
       λ xs m. let W = c.loop-stop.invariant.2 xs m in
-          walk_more g.I.Iterator.next_gives (λ s. s.now) c.args.legs.now c.args.a c.args.b xs W c.in-Some.ensures.steps (c.with_stop-ends.ensures c.args.a c.args.b _ W.ends),
+          walk_more g.I.Iterator.next_gives (λ s. s.now) c.args.legs.now.table c.args.a c.args.b xs W c.in-Some.ensures.steps (c.with_stop-ends.ensures c.args.a c.args.b _ W.ends),
     )
 
 pub returns : goal.returns
 returns g c =
-    λ xs m. walk-over g.I.Iterator.next_gives (λ s. s.now) c.args.legs.now c.args.a c.args.b xs
+    λ xs m. walk-over g.I.Iterator.next_gives (λ s. s.now) c.args.legs.now.table c.args.a c.args.b xs
     (c.loop-stop.invariant.2 xs (rw (sym c.into_iter-stop-iterator.ensures.into_iter_gives) at m)) c.in-None.ensures.steps

@@ -8,4 +8,4 @@ abbrev pub invariant-loop-stop : goal.invariant-loop-stop
 invariant-loop-stop g l =
     (goal.iterator-loop-stop g).can_next l.stop-iterator × (goal.iterator-loop-stop g).is_finite l.stop-iterator
     × ((xs : Route) → AlwaysYields (goal.iterator-loop-stop g).next_gives (λ s. s.now) l.initial.stop-iterator xs
-    → Walk (goal.iterator-loop-stop g).next_gives (λ s. s.now) l.legs l.a l.b xs l.stop-iterator l.ends)
+    → Walk (goal.iterator-loop-stop g).next_gives (λ s. s.now) l.legs.table l.a l.b xs l.stop-iterator l.ends)

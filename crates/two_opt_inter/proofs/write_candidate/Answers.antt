@@ -1,15 +1,15 @@
 use Prim.Native.Nat.{◌/◌, ◌%◌, ◌≤◌}
 use lib.Dec.{eqb}
 use lib.ListN.{length}
-use Rattle.model.specs.Plan.{decode}
+use Rattle.solution.specs.Held.{routes}
 use Rattle.model.specs.TwoOpt.{turned}
 use Rattle.two_opt_inter.proofs.Rows.{Front}
-use Rattle.two_opt_inter.proofs.Plans.{two-routes, routes-short, turned-front, turned_rows, turned-written}
+use Rattle.two_opt_inter.proofs.Plans.{routes-short, turned-front, turned_rows, turned-written}
 use Rattle.two_opt_inter.proofs.write_candidate.Goals as goal
 use Rattle.two_opt_inter.proofs.write_candidate.Goals.{After-route-rb, After-write_turned, After-write_turned-2}
 
 short : (c : After-route-rb) → (length c.route-ra.result.now ≤ 64) × (length c.route-rb.result.now ≤ 64)
-short c = routes-short c.requires.0 c.route-ra.ensures c.route-rb.ensures
+short c = routes-short c.requires c.route-ra.ensures c.route-rb.ensures
 
 first-row : (c : After-write_turned)
     → (let r = c.route-ra.result.now in Front c.write_turned.new.row (length r) (turned (eqb (c.args.code / 32 % 2) 1) r))
@@ -41,14 +41,13 @@ slice_bounds-tb-end c = (second-row (goal.at.slice_bounds-tb-end c).After-write_
 
 pub write_pair-requires : goal.write_pair-requires
 write_pair-requires c = (
-  two-routes c.requires.0,
-  turned_rows c.requires.0 c.route-ra.ensures c.route-rb.ensures (eqb (c.args.code / 32 % 2) 1) (eqb (c.args.code / 16 % 2) 1)
+  c.requires.vehicles,
+  turned_rows c.requires c.route-ra.ensures c.route-rb.ensures (eqb (c.args.code / 32 % 2) 1) (eqb (c.args.code / 16 % 2) 1)
       (first-row (goal.at.write_pair-requires c).After-write_turned).is (second-row (goal.at.write_pair-requires c).After-write_turned-2).is c.position-i.ensures c.position-j.ensures,
-  c.requires.1,
 )
 
 pub returns : goal.returns
 returns c =
     let a = c.args in
-    turned-written c.write_pair.new.plan a.n (decode a.v a.old.now) a.first.vehicle a.first.stop a.second.vehicle a.second.stop a.code
+    turned-written _ _ (routes a.plan.now) c.write_pair.new.plan a.first.vehicle a.first.stop a.second.vehicle a.second.stop a.code
     c.route-ra.ensures c.route-rb.ensures (first-row (goal.at.returns c).After-write_turned).is (second-row (goal.at.returns c).After-write_turned-2).is c.position-i.ensures c.position-j.ensures c.write_pair.ensures

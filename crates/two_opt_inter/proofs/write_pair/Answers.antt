@@ -1,10 +1,10 @@
 use native.Mathlib.Omega.{arith}
 use Prim.Native.Nat.{◌≤◌}
-use lib.ListN.{length, take}
-use Rattle.model.specs.Plan.{decode}
+use lib.ListN.{length}
+use Rattle.solution.specs.Held.{routes}
 use Rattle.two_opt_candidates.specs.Pairs.{pair_of}
 use Rattle.two_opt_inter.proofs.Rows.{Front, front, choice-cuts}
-use Rattle.two_opt_inter.proofs.Plans.{new-few, new-placed, front-first, front-second, new-written}
+use Rattle.two_opt_inter.proofs.Plans.{new-few, new-lent, front-first, front-second, new-written}
 use Rattle.two_opt_inter.proofs.write_pair.Goals as goal
 use Rattle.two_opt_inter.proofs.write_pair.Goals.{After-choice_of-c, After-write_joined-p, After-write_joined-q}
 
@@ -47,28 +47,24 @@ write_joined-q-requires c =
 pub slice_bounds-x-end : goal.slice_bounds-x-end
 slice_bounds-x-end c = (new-first (goal.at.slice_bounds-x-end c).After-write_joined-p).inside
 
-pub slice_bounds-replace_two-end : goal.slice_bounds-replace_two-end
-slice_bounds-replace_two-end c = (new-first (goal.at.slice_bounds-replace_two-end c).After-write_joined-p).size
+pub slice_bounds-replace-end : goal.slice_bounds-replace-end
+slice_bounds-replace-end c = (new-first (goal.at.slice_bounds-replace-end c).After-write_joined-p).size
 
 pub slice_bounds-y-end : goal.slice_bounds-y-end
 slice_bounds-y-end c = (new-second (goal.at.slice_bounds-y-end c).After-write_joined-q).inside
 
-pub slice_bounds-replace_two-end-2 : goal.slice_bounds-replace_two-end-2
-slice_bounds-replace_two-end-2 c = (new-second (goal.at.slice_bounds-replace_two-end-2 c).After-write_joined-q).size
+pub slice_bounds-replace-end-2 : goal.slice_bounds-replace-end-2
+slice_bounds-replace-end-2 c = (new-second (goal.at.slice_bounds-replace-end-2 c).After-write_joined-q).size
 
-pub replace_two-requires : goal.replace_two-requires
-replace_two-requires c =
-    let T = c.requires.0 in record {
-      sizes = T.sizes;
-      lent = T.plan;
-      len = c.requires.2;
-      a_lt_v = (T.first, T.second, T.apart);
-      bound = new-placed T c.requires.1 c.args.code (take c.write_joined-p.result c.write_joined-p.new.row) (take c.write_joined-q.result c.write_joined-q.new.row)
-          (new-first (goal.at.replace_two-requires c).After-write_joined-p).is (new-second (goal.at.replace_two-requires c).After-write_joined-q).is;
+pub replace-requires : goal.replace-requires
+replace-requires c =
+    let T = c.requires.0 in
+    record {
+      vehicles = (T.first, T.second, T.apart);
+      lent = new-lent T c.requires.1 c.args.code _ _ (new-first (goal.at.replace-requires c).After-write_joined-p).is (new-second (goal.at.replace-requires c).After-write_joined-q).is;
     }
 
 pub returns : goal.returns
 returns c =
     let a = c.args in
-    new-written c.replace_two.new.new a.n a.a a.b (decode a.v a.old.now) (take c.write_joined-p.result c.write_joined-p.new.row)
-    (take c.write_joined-q.result c.write_joined-q.new.row) _ _ c.replace_two.ensures (new-first (goal.at.returns c).After-write_joined-p).is (new-second (goal.at.returns c).After-write_joined-q).is
+    new-written _ _ a.a a.b (routes a.plan.now) c.replace.new.plan _ _ _ _ c.replace.ensures (new-first (goal.at.returns c).After-write_joined-p).is (new-second (goal.at.returns c).After-write_joined-q).is

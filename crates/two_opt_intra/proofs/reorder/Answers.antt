@@ -23,7 +23,7 @@ second c =
 
 -- what the three routes cost
 weights : (c : After-weigh-old) → let a = c.args in
-    Weights a.legs.now a.prices a.vehicle a.i a.j a.route.now
+    Weights a.tariff.now.legs.table a.tariff.now.prices a.vehicle a.i a.j a.route.now
     c.weigh-a.result c.weigh-b.result c.weigh-old.result
 weights c =
     record {

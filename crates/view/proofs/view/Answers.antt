@@ -1,25 +1,13 @@
-use native.Mathlib.Omega.{arith}
-use mathlib.Core.Path.{refl, sym, ◌∙◌}
-use lib.Seq.{length-take-le}
-use Rattle.model.specs.Plan.{decode}
+use mathlib.Core.Path.{refl, ◌∙◌}
 use Rattle.model.specs.Vans.{view}
 use Rattle.model.proofs.PlanForm.{lent_length}
+use Rattle.solution.specs.Held.{numbers_of, routes}
 use Rattle.view.proofs.Views.{view-routes}
 use Rattle.view.proofs.Seeing.{seen-whole}
 use Rattle.view.proofs.view.Goals as goal
 
-pub slice_bounds-see_lengths-end-2 : goal.slice_bounds-see_lengths-end-2
-slice_bounds-see_lengths-end-2 c = let a = c.args in sym (length-take-le a.v a.seen.now (omega arith))
-
-pub see_lengths-requires : goal.see_lengths-requires
-see_lengths-requires c =
-    record { sizes = c.requires.sizes; lengths_len = length-take-le c.args.v c.args.seen.now (omega arith) }
-
-pub returns : goal.returns
-returns c =
-    let a = c.args in record {
-      value = c.unplaced_set.ensures;
-      seen_after = seen-whole a.v a.n a.seen.now _ c.see_lengths.new.lengths c.see_stops.new.area (view a.vans (decode a.v a.plan.now))
-          (view-routes a.vans (decode a.v a.plan.now) ∙ lent_length a.v a.n a.plan.now c.requires.sizes.1) c.see_lengths.ensures refl
-          c.see_stops.ensures;
-    }
+pub returns-clause-seen_after : goal.returns-clause-seen_after
+returns-clause-seen_after c =
+    let p = c.args.plan.now in
+    seen-whole p.v p.n c.args.seen.now _ c.see_lengths.new.lengths c.see_stops.new.area (view c.args.vans (routes p))
+    (view-routes c.args.vans (routes p) ∙ lent_length p.v p.n (numbers_of p) p.lent) c.see_lengths.ensures refl c.see_stops.ensures

@@ -4,12 +4,12 @@ use Rattle.rebuild_ways.proofs.Gaps.{prices-kept, gaps-fillable, filled}
 use Rattle.rebuild_ways.proofs.Ways.filled.Goals as goal
 
 pub fill_rows-requires : goal.fill_rows-requires
-fill_rows-requires c = (c.requires.legs, c.requires.from, c.requires.to, (refl, zeros-whole 256))
+fill_rows-requires c = (c.requires.from, c.requires.to, (refl, zeros-whole 256))
 
 pub invariant_of-ways : goal.invariant_of-ways
 invariant_of-ways c =
-    let a = c.requires.affordable in
-    let p = c.args.prices in
+    let a = c.args.tariff.now.affordable in
+    let p = c.args.tariff.now.prices in
     record {
       whole_legs = c.fill_rows.ensures.roomy.1;
       whole_own = zeros-whole 4;
@@ -21,11 +21,11 @@ invariant_of-ways c =
 pub fill_gaps-requires : goal.fill_gaps-requires
 fill_gaps-requires c =
     let a = c.args in
-    gaps-fillable a.legs.now a.prices a.starts.now a.ends.now a.gaps.now a.p a.base c.requires _ c.fill_rows.ensures
-    (prices-kept a.prices c.requires.affordable c.of_u64-missed.result c.of_u64-missed.ensures)
+    gaps-fillable a.tariff.now a.starts.now a.ends.now a.gaps.now a.p a.base c.requires _ c.fill_rows.ensures
+    (prices-kept a.tariff.now.prices a.tariff.now.affordable c.of_u64-missed.result c.of_u64-missed.ensures)
 
 pub returns : goal.returns
 returns c =
     let a = c.args in
-    filled a.legs.now a.prices a.starts.now a.ends.now a.gaps.now a.p a.base c.requires _ c.fill_rows.ensures
-    (prices-kept a.prices c.requires.affordable c.of_u64-missed.result c.of_u64-missed.ensures) refl c.fill_gaps.new.self c.fill_gaps.ensures
+    filled a.tariff.now a.starts.now a.ends.now a.gaps.now a.p a.base c.requires _ c.fill_rows.ensures
+    (prices-kept a.tariff.now.prices a.tariff.now.affordable c.of_u64-missed.result c.of_u64-missed.ensures) refl c.fill_gaps.new.self c.fill_gaps.ensures
