@@ -11,7 +11,7 @@ ghost use Rattle.model.specs.StopSet.{including};
 ghost use Rattle.model.specs.Legs.{depot};
 ghost use Rattle.model.specs.Live.{put_in, live_cost, arrived};
 ghost use Rattle.distance.specs.Ways.{table_legs, last_place, Drivable};
-ghost use Rattle.solution.specs.Held.{routes, Becomes};
+ghost use Rattle.solution.specs.Held.{routes, Becomes, SizesKept};
 ghost use Rattle.delivery.specs.Costs.{table_live};
 ghost use Rattle.delivery.specs.Held.{IsJobOf};
 ghost use Rattle.arrival.specs.Arriving.{Arriving};
@@ -127,7 +127,7 @@ pub fn arrive(tariff: &Tariff, plan: &mut Plan, live: u64, stop: u32) -> f64
     ensures plan_after { (J : Job) → IsJobOf J tariff.now plan.old → Becomes plan.old plan.new (arrived J live stop (routes plan.old)) }
     ensures value { (J : Job) → IsJobOf J tariff.now plan.old
         → result ≡ whole (live_cost J (including stop live) (arrived J live stop (routes plan.old))) }
-    ensures sizes { (plan.new.v ≡ plan.old.v) × (plan.new.n ≡ plan.old.n) }
+    ensures sizes { SizesKept plan.old plan.new }
 {
     let best = best_place(tariff, plan, live, stop);
     if let Some(place) = best.place {

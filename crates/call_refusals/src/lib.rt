@@ -85,7 +85,8 @@ pub fn of_rebuild(job: &Job, plan: &[u32], given: &[u32]) -> Result<(), Refusal>
     Ok(())
 }
 
-// What exhaustive or pruned is refused with: 1 to 4, 6 to 8, 13, or none.
+// What exhaustive or pruned is refused with: 1 to 4, 6 to 8, 13, or none. It and of_weigh differ in their last test and its refusal, as their
+// tables do.
 pub fn of_exhaustive(job: &Job, plan: &[u32]) -> Result<(), Refusal>
     ensures { refused result ≡ refusal Exhaustive (asking (of_lent job.now) plan.now []) }
 {

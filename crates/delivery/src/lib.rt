@@ -15,6 +15,7 @@ use model::Prices;
 use solution::Plan;
 
 // What a route of that length costs, one product less than the definition has. All routes of a plan together are at most 16,000,000 long.
+// It asks of the prices alone, and not for a tariff: where a road gets longer there is no leg table.
 pub fn price(length: u32, prices: Prices) -> f64
     requires { (length ≤ 16000000) × Affordable prices }
     ensures { result ≡ whole (price prices length) }

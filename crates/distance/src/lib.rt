@@ -7,16 +7,17 @@ mod weighing;
 
 ghost use Rattle.std.specs.Prelude.{◌≡◌, ◌+◌, ◌/◌, ◌≤◌, ◌<◌, length, true};
 ghost use Rattle.model.specs.Job.{priced, entry};
-ghost use Rattle.model.specs.Legs.{leaves, reaches};
 ghost use Rattle.model.specs.declared.Prices.{Prices};
-ghost use Rattle.distance.specs.Table.{Square, Limited, is_place, start_at, end_at, between, EndsOf, Row, TableOf};
+ghost use Rattle.distance.specs.Table.{Square, Limited, is_place, between, EndsOf, Row, TableOf};
+ghost use Rattle.distance.specs.Sides.{leads, leads_at};
 
 pub use legs::Legs;
 use model::Network;
 pub use tariff::Tariff;
 pub use weighing::tariff_of;
 
-// The metres from one location to another. No other function reads the job's own table.
+// The metres from one location to another. No other function reads the job's own table. That the table is square is asked, and no fact of a
+// `Network`, which is what a host lends before anything is tested.
 pub fn lookup(network: &Network, from: u32, to: u32) -> u32
     requires { Square network.now.locations network.now.distances.now × (from < network.now.locations) × (to < network.now.locations) }
     ensures { result ≡ entry network.now.distances.now network.now.locations from to }
@@ -33,31 +34,39 @@ fn is_place(v: usize, n: usize, place: usize) -> bool
     place < n || (64 <= place && place < 64 + v)
 }
 
-// The location of a place: of a stop its own, of a vehicle its start for end 0, where legs from there begin, and its end for end 1, where
-// legs to there end.
-fn location_at(network: &Network, place: usize, end: usize) -> u32
-    requires few { (length network.now.stops.now ≤ 64) × (end ≤ 1) }
+// A side of a leg: where it begins, or where it ends.
+#[derive(Clone, Copy)]
+enum Side {
+    Start,
+    End,
+}
+
+// The location of a place on a side of a leg: of a stop its own, of a vehicle its start where a leg begins, and its end where one ends.
+fn location_at(network: &Network, place: usize, side: Side) -> u32
+    requires few { length network.now.stops.now ≤ 64 }
     requires there { is_place (length network.now.vehicles.now / 2) (length network.now.stops.now) place ≡ true }
-    ensures from { (p : Prices) → end ≡ 0 → result ≡ leaves (priced network.now p) place }
-    ensures to { (p : Prices) → end ≡ 1 → result ≡ reaches (priced network.now p) place }
+    ensures { (p : Prices) → result ≡ leads (priced network.now p) side place }
 {
     if place < 64 {
         return network.stops[place];
     }
-    network.vehicles[2 * (place - 64) + end]
+    let start = 2 * (place - 64);
+    match side {
+        Side::Start => network.vehicles[start],
+        Side::End => network.vehicles[start + 1],
+    }
 }
 
 // The same, the number of locations for a place that is not there. That number is no location, so that the one test that `metres` makes of it
 // keeps such places and all entries outside the table apart: an Option would be opened there, and its number tested as well.
-fn location_of(network: &Network, place: usize, end: usize) -> u32
-    requires { (length network.now.vehicles.now ≤ 32) × (length network.now.stops.now ≤ 64) × (end ≤ 1) }
-    ensures from { (p : Prices) → end ≡ 0 → result ≡ start_at (priced network.now p) place }
-    ensures to { (p : Prices) → end ≡ 1 → result ≡ end_at (priced network.now p) place }
+fn location_of(network: &Network, place: usize, side: Side) -> u32
+    requires { (length network.now.vehicles.now ≤ 32) × (length network.now.stops.now ≤ 64) }
+    ensures { (p : Prices) → result ≡ leads_at (priced network.now p) side place }
 {
     if !is_place(network.vehicles.len() / 2, network.stops.len(), place) {
         return network.locations;
     }
-    location_at(network, place, end)
+    location_at(network, place, side)
 }
 
 // The metres from one location to another, 0 where one of them is none.
@@ -65,10 +74,7 @@ fn metres(network: &Network, from: u32, to: u32) -> u32
     requires { Square network.now.locations network.now.distances.now }
     ensures { result ≡ between network.now.distances.now network.now.locations from to }
 {
-    if from >= network.locations {
-        return 0;
-    }
-    if to >= network.locations {
+    if from >= network.locations || to >= network.locations {
         return 0;
     }
     lookup(network, from, to)
@@ -80,7 +86,7 @@ fn place_ends(network: &Network, ends: &mut [u32; 80])
     ensures { (p : Prices) → EndsOf (priced network.now p) 80 ends.new }
 {
     for i in 0..80 {
-        ends[i] = location_of(network, i, 1);
+        ends[i] = location_of(network, i, Side::End);
     }
 }
 
@@ -103,7 +109,7 @@ pub fn legs_of(network: &Network) -> Legs
     place_ends(network, &mut ends);
     let mut table = [0u32; 6400];
     for i in 0..80 {
-        let from = location_of(network, i, 0);
+        let from = location_of(network, i, Side::Start);
         fill_row(network, from, &ends, &mut table, 80 * i);
     }
     Legs { table }

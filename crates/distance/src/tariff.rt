@@ -4,7 +4,7 @@ use crate::Legs;
 use model::Prices;
 
 // What a plan is weighed by: the legs, and the prices.
-#[derive(Clone, Copy)]
+#[derive(Drop)]
 pub struct Tariff {
     pub legs: Legs,
     pub prices: Prices,

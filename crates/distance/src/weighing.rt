@@ -31,7 +31,8 @@ impl Legs {
     }
 }
 
-// What a job's plans are weighed by.
+// What a job's plans are weighed by. It is kept out of its callers' frames, so that none of them has room for the leg table twice.
+#[inline(never)]
 pub fn tariff_of(job: &Job) -> Tariff
     requires { Limited job.now.network × Affordable job.now.prices }
     ensures { TableOf job.now.network result.legs.table × (result.prices ≡ job.now.prices) }

@@ -39,7 +39,8 @@ pub fn read_field(bytes: &[u8], at: usize) -> Option<u64>
     }
 }
 
-// The number up to 4294967295 in the field at a position of a file, 0 where there is none.
+// The number up to 4294967295 in the field at a position of a file, 0 where there is none: it is asked of lines that were checked, and
+// `read_field` is the test, an Option.
 #[tactic(auto, using(crate::proofs::Numbers::number_known))]
 pub fn number_at(bytes: &[u8], at: usize) -> u32
     ensures { NumberAt bytes.now at result }

@@ -76,10 +76,7 @@ fn check_draws(bytes: &[u8], at: usize) -> Option<usize>
         return None;
     }
     let count = file_columns::number_at(bytes, at) as usize;
-    if count < 1 {
-        return None;
-    }
-    if 1024 < count {
+    if !(1..=1024).contains(&count) {
         return None;
     }
     if !file_lines::check_lines(bytes, at + 15, count, 1) {
@@ -92,28 +89,18 @@ fn check_draws(bytes: &[u8], at: usize) -> Option<usize>
 fn check_at(bytes: &[u8], at: usize) -> Result<Header, Refusal>
     ensures { CheckedAt bytes.now at result }
 {
-    let Some(first) = read_first_line(bytes, at) else {
-        return Err(Refusal::File);
-    };
+    let first = read_first_line(bytes, at).ok_or(Refusal::File)?;
     let v = first.vehicles as usize;
     let n = first.stops as usize;
     let l = first.locations as usize;
-    if 16 < v {
-        return Err(Refusal::File);
-    }
-    if 64 < n {
-        return Err(Refusal::File);
-    }
-    if 80 < l {
+    if 16 < v || 64 < n || 80 < l {
         return Err(Refusal::File);
     }
     if !check_tables(bytes, at + 113, v, n, l) {
         return Err(Refusal::File);
     }
     let count = at + 113 + v * 29 + n * 15 + l * (14 * l + 1);
-    let Some(draws) = check_draws(bytes, count) else {
-        return Err(Refusal::File);
-    };
+    let draws = check_draws(bytes, count).ok_or(Refusal::File)?;
     Ok(Header {
         vehicles: v,
         stops: n,

@@ -73,7 +73,7 @@ pub fn print_run(t: Totals, plan: &Plan, out: &mut [u8]) -> usize
     n * 9 + 101
 }
 
-// What is printed for the refusal of a number.
+// What is printed for the refusal of a number: a caller may have any number, and a `Refusal` would ask for one of the table.
 pub fn print_refusal(number: u32, out: &mut [u8]) -> usize
     requires { 21 ≤ length out.old }
     ensures { Prints out.old out.new result (printed_refusal number) }

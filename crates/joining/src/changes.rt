@@ -18,7 +18,8 @@ pub fn blank(v: usize, n: usize) -> Plan
     Plan { v, n, numbers }
 }
 
-// Puts a stop that is on no route in at place i of route k.
+// Puts a stop that is on no route in at place i of route k. The numbers stand beside the facts of a plan and cannot be lent to be written while
+// these hold, so a copy of them is changed and stored, here and in the other changes.
 pub fn insert(plan: &mut Plan, k: usize, i: usize, stop: u32)
     requires place { (k < plan.old.v) × (i ≤ length (route_of (routes plan.old) k)) }
     requires stop { (stop < plan.old.n) × (is_placed stop (routes plan.old) ≡ false) }

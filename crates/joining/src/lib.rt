@@ -134,7 +134,7 @@ fn shift_out(part: &mut [u32])
     part.rotate_left(1);
 }
 
-// Takes the stop at place i of route k out, in the numbers of a lent form.
+// Takes the stop at place i of route k out, in the numbers of a lent form. It and put_in turn the other way and count the other way.
 pub fn take_out(plan: &mut [u32], v: usize, n: usize, k: usize, i: usize)
     requires sizes { Sizes v n × Lent v n plan.old }
     requires k_lt_v { (k < v) × (i < length (route_of (decode v plan.old) k)) }

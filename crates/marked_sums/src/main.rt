@@ -114,7 +114,7 @@ fn first() -> [u32; 5]
     out
 }
 
-// The second.
+// The second, by the other inversion.
 fn second() -> [u32; 5]
     ensures { result ≡ 0 ∷ 3 ∷ 2 ∷ 1 ∷ 4 ∷ [] }
 {

@@ -19,10 +19,7 @@ pub fn stops_once(part: &[u32], n: usize) -> bool
 {
     let mut seen: u64 = 0;
     for stop in part {
-        if n <= *stop as usize {
-            return false;
-        }
-        if stop_set::contains(seen, *stop) {
+        if n <= *stop as usize || stop_set::contains(seen, *stop) {
             return false;
         }
         seen = stop_set::with(seen, *stop);

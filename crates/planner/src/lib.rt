@@ -1,4 +1,4 @@
-// The public calls, under one name. Each tests its arguments and promises what `Calls` of model defines: a refusal by its number, with
+// The public calls, under one name. Each tests its arguments and promises what `Calls` of model defines: a refusal, with
 // the lent plan as it was, or the values, with the new plan in the lent one. None has a precondition. Those that came later stand in
 // crates of their own, and are passed on.
 // A call that is not refused works on what it makes of its arguments: the leg table with the prices, and the plan that it holds. Both are

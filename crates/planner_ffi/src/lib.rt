@@ -3,7 +3,7 @@
 #![tactic(auto)]
 
 ghost use Rattle.std.specs.Prelude.{◌≡◌, [], ◌∷◌};
-ghost use Rattle.model.specs.Job.{job_of};
+ghost use Rattle.model.specs.Job.{job_of, of_lent};
 ghost use Rattle.model.specs.Refusals.{asking, naming, looking, moving, lengthening, tableless, Weigh, TwoOpt, Exhaustive, Pruned, Arrive, Cancel, unpriced, running};
 ghost use Rattle.model.specs.Vans.{move_to};
 ghost use Rattle.model.specs.Roads.{road_from};
@@ -73,6 +73,33 @@ fn hand_totals(
     hand(answer.map(|t| t.start), start)
 }
 
+// The job of what a call is given of it.
+fn job_of<'a>(
+    vehicles: &'a [u32],
+    stops: &'a [u32],
+    locations: u32,
+    distances: &'a [u32],
+    linear: u32,
+    quadratic: u32,
+    missed: u64,
+) -> Job<'a>
+    ensures { of_lent result ≡ job_of vehicles.now stops.now locations distances.now (priced linear quadratic missed) }
+{
+    Job {
+        network: Network {
+            vehicles,
+            stops,
+            locations,
+            distances,
+        },
+        prices: Prices {
+            linear,
+            quadratic,
+            missed,
+        },
+    }
+}
+
 // Weighs a plan.
 #[unsafe(no_mangle)]
 pub extern "C" fn planner_weigh(
@@ -88,18 +115,9 @@ pub extern "C" fn planner_weigh(
 ) -> u32
     ensures { HandsCost Weigh (asking (job_of vehicles.now stops.now locations distances.now (priced linear quadratic missed)) plan.now []) result cost.old cost.new plan.now }
 {
-    let network = Network {
-        vehicles,
-        stops,
-        locations,
-        distances,
-    };
-    let prices = Prices {
-        linear,
-        quadratic,
-        missed,
-    };
-    let job = Job { network, prices };
+    let job = job_of(
+        vehicles, stops, locations, distances, linear, quadratic, missed,
+    );
     let answer = planner::weigh(&job, plan);
     hand(answer, cost)
 }
@@ -121,10 +139,8 @@ pub extern "C" fn planner_start_plan(
         locations,
         distances,
     };
-    match planner::start_plan(&network, plan) {
-        Ok(()) => 0,
-        Err(refusal) => refusal.into(),
-    }
+    let answer = planner::start_plan(&network, plan);
+    hand(answer, &mut ())
 }
 
 // Improves a plan by the two-opt move of one pair of stops, and weighs it.
@@ -144,18 +160,9 @@ pub extern "C" fn planner_two_opt(
 ) -> u32
     ensures { HandsCost TwoOpt (asking (job_of vehicles.now stops.now locations distances.now (priced linear quadratic missed)) plan.old (first ∷ second ∷ [])) result cost.old cost.new plan.new }
 {
-    let network = Network {
-        vehicles,
-        stops,
-        locations,
-        distances,
-    };
-    let prices = Prices {
-        linear,
-        quadratic,
-        missed,
-    };
-    let job = Job { network, prices };
+    let job = job_of(
+        vehicles, stops, locations, distances, linear, quadratic, missed,
+    );
     let answer = planner::two_opt(&job, plan, first, second);
     hand(answer, cost)
 }
@@ -179,18 +186,9 @@ pub extern "C" fn planner_rebuild(
     ensures { HandsRebuilt (asking (job_of vehicles.now stops.now locations distances.now (priced linear quadratic missed)) plan.old given.now) result
         (walk cost.old begun.old completed.old) (walk cost.new begun.new completed.new) plan.new }
 {
-    let network = Network {
-        vehicles,
-        stops,
-        locations,
-        distances,
-    };
-    let prices = Prices {
-        linear,
-        quadratic,
-        missed,
-    };
-    let job = Job { network, prices };
+    let job = job_of(
+        vehicles, stops, locations, distances, linear, quadratic, missed,
+    );
     let answer = planner::rebuild(&job, plan, given);
     hand_rebuilt(answer, cost, begun, completed)
 }
@@ -210,18 +208,9 @@ pub extern "C" fn planner_exhaustive(
 ) -> u32
     ensures { HandsCost Exhaustive (asking (job_of vehicles.now stops.now locations distances.now (priced linear quadratic missed)) plan.old []) result cost.old cost.new plan.new }
 {
-    let network = Network {
-        vehicles,
-        stops,
-        locations,
-        distances,
-    };
-    let prices = Prices {
-        linear,
-        quadratic,
-        missed,
-    };
-    let job = Job { network, prices };
+    let job = job_of(
+        vehicles, stops, locations, distances, linear, quadratic, missed,
+    );
     let answer = planner::exhaustive(&job, plan);
     hand(answer, cost)
 }
@@ -241,18 +230,9 @@ pub extern "C" fn planner_pruned(
 ) -> u32
     ensures { HandsCost Pruned (asking (job_of vehicles.now stops.now locations distances.now (priced linear quadratic missed)) plan.old []) result cost.old cost.new plan.new }
 {
-    let network = Network {
-        vehicles,
-        stops,
-        locations,
-        distances,
-    };
-    let prices = Prices {
-        linear,
-        quadratic,
-        missed,
-    };
-    let job = Job { network, prices };
+    let job = job_of(
+        vehicles, stops, locations, distances, linear, quadratic, missed,
+    );
     let answer = planner::pruned(&job, plan);
     hand(answer, cost)
 }
@@ -282,18 +262,9 @@ pub extern "C" fn planner_solve(
         (results start.new end.new rounds.new improving.new settled.new)
         plan.new }
 {
-    let network = Network {
-        vehicles,
-        stops,
-        locations,
-        distances,
-    };
-    let prices = Prices {
-        linear,
-        quadratic,
-        missed,
-    };
-    let job = Job { network, prices };
+    let job = job_of(
+        vehicles, stops, locations, distances, linear, quadratic, missed,
+    );
     let settings = Settings {
         smoothing,
         limit,
@@ -322,18 +293,9 @@ pub extern "C" fn planner_arrive(
     ensures { HandsChange Arrive (naming (job_of vehicles.now stops.now locations distances.now (priced linear quadratic missed)) plan.old live stop) result
         after.old after.new cost.old cost.new plan.new }
 {
-    let network = Network {
-        vehicles,
-        stops,
-        locations,
-        distances,
-    };
-    let prices = Prices {
-        linear,
-        quadratic,
-        missed,
-    };
-    let job = Job { network, prices };
+    let job = job_of(
+        vehicles, stops, locations, distances, linear, quadratic, missed,
+    );
     let answer = planner::arrive(&job, plan, live, stop);
     hand_change(answer, after, cost)
 }
@@ -357,18 +319,9 @@ pub extern "C" fn planner_cancel(
     ensures { HandsChange Cancel (naming (job_of vehicles.now stops.now locations distances.now (priced linear quadratic missed)) plan.old live stop) result
         after.old after.new cost.old cost.new plan.new }
 {
-    let network = Network {
-        vehicles,
-        stops,
-        locations,
-        distances,
-    };
-    let prices = Prices {
-        linear,
-        quadratic,
-        missed,
-    };
-    let job = Job { network, prices };
+    let job = job_of(
+        vehicles, stops, locations, distances, linear, quadratic, missed,
+    );
     let answer = planner::cancel(&job, plan, live, stop);
     hand_change(answer, after, cost)
 }
@@ -411,18 +364,9 @@ pub extern "C" fn planner_move_stop(
     ensures { HandsMove (moving (job_of vehicles.now stops.now locations distances.now (priced linear quadratic missed)) plan.old vans (move_to stop van place)) result
         change.old change.new plan.new }
 {
-    let network = Network {
-        vehicles,
-        stops,
-        locations,
-        distances,
-    };
-    let prices = Prices {
-        linear,
-        quadratic,
-        missed,
-    };
-    let job = Job { network, prices };
+    let job = job_of(
+        vehicles, stops, locations, distances, linear, quadratic, missed,
+    );
     let m = Move { stop, van, place };
     let answer = planner::move_stop(&job, plan, vans, m);
     hand(answer, change)
@@ -447,18 +391,9 @@ pub extern "C" fn planner_roadworks(
     ensures { HandsRise (lengthening (job_of vehicles.now stops.now locations distances.now (priced linear quadratic missed)) plan.now (road_from from to more)) result
         rise.old rise.new }
 {
-    let network = Network {
-        vehicles,
-        stops,
-        locations,
-        distances,
-    };
-    let prices = Prices {
-        linear,
-        quadratic,
-        missed,
-    };
-    let job = Job { network, prices };
+    let job = job_of(
+        vehicles, stops, locations, distances, linear, quadratic, missed,
+    );
     let road = Road { from, to, more };
     let answer = planner::roadworks(&job, plan, road);
     hand(answer, rise)

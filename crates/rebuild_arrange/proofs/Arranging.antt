@@ -27,7 +27,7 @@ use Rattle.rebuild_fillings.specs.Walk.{Filling, empties, own, plan_at}
 use Rattle.rebuild_fillings.specs.Rows.{word_of, filling_of, Full}
 use Rattle.rebuild_fillings.proofs.Places.{own-plan, standing-start}
 use Rattle.rebuild_fillings.proofs.Full.{full-worded, own-full, padded-full}
-use Rattle.rebuild_tables.specs.declared.Frame.{Frame}
+use Rattle.rebuild_tables.specs.declared.frame.Frame.{Frame}
 use Rattle.rebuild_tables.specs.Frame.{gap_count, placed_count, drained_count, framed_plan, framed_regions, plan_by, Placeable, Framing}
 use Rattle.rebuild_ways.specs.declared.Ways.{Ways}
 use Rattle.rebuild_ways.specs.Ways.{prices_at}
@@ -67,15 +67,15 @@ module _ (tariff : Tariff) (plan : held.Plan) (regions : List Region) (A : Arran
 
     empty-full : FullIn f ([] ∷ empties (k - 1))
     empty-full =
-        let e : 0 + suc (k - 1) ≡ k = omega (arith, F.framed.some) in
+        let e : 0 + suc (k - 1) ≡ k = omega (arith, f.framed.some) in
         subst (λ (j : ℕ). Full j m ([] ∷ empties (k - 1))) e (padded-full m 0 (up_from 1 m) [] [] (standing-start m) (k - 1))
 
     pub addable : (j : ℕ) → j ≡ k → (d : ℕ) → d ≡ m → Addable tariff ways j d
     addable j ej d ed = rw (ej, ed) (record {
       prices = T.prices;
-      some = F.framed.some;
+      some = f.framed.some;
       few = few-gaps;
-      left = F.framed.few;
+      left = f.framed.few;
       vacant = T.tabled.vacant;
       small = omega (
         arith,
@@ -99,7 +99,7 @@ module _ (tariff : Tariff) (plan : held.Plan) (regions : List Region) (A : Arran
     -- what is kept before the walk: the word of the plan itself
     module _ (first : Kept) (ew : first.best ≡ word_of (own P gs)) where
       own_read : (filling_of first.best ≡ own P gs) × Placeable f first.best
-      own_read = full-worded k m (own P gs) own_in few-gaps F.framed.few first.best ew
+      own_read = full-worded k m (own P gs) own_in few-gaps f.framed.few first.best ew
 
       -- the plan itself
       own_is : plan_by f (filling_of first.best) ≡ P
@@ -116,7 +116,7 @@ module _ (tariff : Tariff) (plan : held.Plan) (regions : List Region) (A : Arran
           held = record {
             word = own_read.1;
             cost = ec ∙ ap whole (sym own-cost);
-            placed = em ∙ F.framed.placed ∙ ap placed (same-plan plan regions f F ∙ sym own_is);
+            placed = em ∙ f.framed.placed ∙ ap placed (same-plan plan regions f F ∙ sym own_is);
           };
           start = eo ∙ ap₂ (λ (a b : ℕ). whole (beside_first ways a b)) ej ed;
           fresh = fresh;

@@ -25,7 +25,7 @@ use Rattle.rebuild_survey.specs.Surveys.{head_of, rest_of, gap_at, Surveyed, Uns
 use Rattle.rebuild_survey.proofs.Surveys.{turn}
 use Rattle.rebuild_fillings.specs.Walk.{Filling, stop_at, plan_at}
 use Rattle.rebuild_fillings.specs.Rows.{Full}
-use Rattle.rebuild_tables.specs.declared.Frame.{Frame}
+use Rattle.rebuild_tables.specs.declared.frame.Frame.{Frame}
 use Rattle.rebuild_tables.specs.Frame.{gap_count, drained_count, framed_plan, framed_regions, plan_by, Framing}
 use Rattle.rebuild_ways.specs.declared.Ways.{Ways}
 use Rattle.rebuild_ways.specs.Ways.{vacant_at, prices_at}
@@ -47,20 +47,20 @@ module _ (plan : held.Plan) (regions : List Region) (f : Frame) (F : Framing pla
   same-regions = F.spans
 
   pub same-gaps : gap_count f ≡ length regions
-  same-gaps = F.framed.gaps ∙ ap length same-regions
+  same-gaps = f.framed.gaps ∙ ap length same-regions
 
   same-stops : drained (framed_plan f) (framed_regions f) ≡ stops_from plan regions
   same-stops = ap₂ drained same-plan same-regions
 
   pub same-drained : drained_count f ≡ length (stops_from plan regions)
-  same-drained = drained-many f F.framed ∙ ap length same-stops
+  same-drained = drained-many f ∙ ap length same-stops
 
   -- the drained stops stand in the frame
   stop-at : (i : ℕ) → 1 ≤ i → i ≤ length (stops_from plan regions) → get_or f.listed i 0 ≡ stop_at (stops_from plan regions) i
   stop-at i a b =
       let h : i - 1 < drained_count f = omega (arith, same-drained) in
       let k : 1 + (i - 1) ≡ i = omega arith in
-      sym (ap (λ (l : List ℕ). get_or l (i - 1) 0) (sym (F.framed.stops ∙ same-stops))
+      sym (ap (λ (l : List ℕ). get_or l (i - 1) 0) (sym (f.framed.stops ∙ same-stops))
       ∙ get_or-take (drained_count f) (drop 1 f.listed) (i - 1) 0 h ∙ get_or-drop 1 f.listed (i - 1) 0 ∙ ap (λ (j : ℕ). get_or f.listed j 0) k)
 
 -- ---- the gaps that were measured
@@ -195,7 +195,6 @@ module _ (tariff : Tariff) (plan : held.Plan) (regions : List Region) (f : Frame
       pub tells : Tells tariff plan f ways
       tells = record {
         tabled = record {
-          framed = T.framing.framed;
           prices = subst Affordable (sym W.priced) tariff.affordable;
           vacant = λ q h. vacant-route q (omega (arith, all-gaps, same-gaps plan regions f T.framing));
           short = short;

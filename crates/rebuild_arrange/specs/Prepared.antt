@@ -10,7 +10,7 @@ use Rattle.solution.specs.Held.{routes}
 use Rattle.delivery.specs.Costs.{table_cost}
 use Rattle.delivery.specs.Held.{IsJobOf}
 use Rattle.rebuild_fillings.specs.Walk.{Filling, empties}
-use Rattle.rebuild_tables.specs.declared.Frame.{Frame}
+use Rattle.rebuild_tables.specs.declared.frame.Frame.{Frame}
 use Rattle.rebuild_tables.specs.Frame.{drained_count, plan_by, Framing}
 use Rattle.rebuild_ways.specs.declared.Ways.{Ways}
 use Rattle.rebuild_ways.specs.Ways.{vacant_at, prices_at, base_at}

@@ -21,8 +21,8 @@ use Rattle.rebuild_fillings.specs.Rows.{rows_from, word_of, digits_of, placement
 use Rattle.rebuild_fillings.proofs.Places.{in-up_from}
 use Rattle.rebuild_fillings.proofs.Rows.{Places, length-rows, rows-below, digits-all, placements-zero, placements-stop, placements-gap, word-many, sixteen}
 use Rattle.rebuild_fillings.proofs.Full.{full-places, full-few}
-use Rattle.rebuild_tables.specs.declared.Frame.{Frame}
-use Rattle.rebuild_tables.specs.Frame.{gap_count, drained_count, stops_in, framed_plan, framed_regions, Framed, Placeable}
+use Rattle.rebuild_tables.specs.declared.frame.Frame.{Frame}
+use Rattle.rebuild_tables.specs.Frame.{gap_count, drained_count, stops_in, framed_plan, framed_regions, Placeable}
 
 -- ---- the digits of a word
 
@@ -93,7 +93,7 @@ pub read_same : (f : Frame) (w i m q : ℕ) (codes : List ℕ) → Read f w i m 
     → codes₁ ≡ codes → m₁ ≡ m → q₁ ≡ q → Read f w i m₁ q₁ codes₁
 read_same f w i m q codes r codes₁ m₁ q₁ a b c = rw (a, b, c) r
 
-module _ (f : Frame) (F : Framed f) where
+module _ (f : Frame) where
   abbrev P : Plan
   P = framed_plan f
 
@@ -101,20 +101,20 @@ module _ (f : Frame) (F : Framed f) where
   gs = framed_regions f
 
   pub gaps-few : gap_count f ≤ 3
-  gaps-few = omega (arith, F.gaps, F.gapped.few)
+  gaps-few = omega (arith, f.framed.gaps, f.framed.gapped.few)
 
   pub stops-below : Below 64 (drained P gs)
-  stops-below s h = omega (arith, f.plan.lent.below s (omega (arith, drained-le P gs F.gapped.stretches s)), f.plan.sizes.stops)
+  stops-below s h = omega (arith, f.plan.lent.below s (omega (arith, drained-le P gs f.framed.gapped.stretches s)), f.plan.sizes.stops)
 
   stops-long : length (stops_in f) ≡ drained_count f
-  stops-long = length-take-le (drained_count f) (drop 1 f.listed) (rw length-drop (omega (arith, F.places, F.few)))
+  stops-long = length-take-le (drained_count f) (drop 1 f.listed) (rw length-drop (omega (arith, f.framed.places, f.framed.few)))
 
   pub drained-many : drained_count f ≡ length (drained P gs)
-  drained-many = sym stops-long ∙ ap length F.stops
+  drained-many = sym stops-long ∙ ap length f.framed.stops
 
   stop-below : (d : ℕ) → stop_at (stops_in f) d < 64
   stop-below d = elim (dec_lt (d - 1) (length (stops_in f))) [
-    | yes h ↦ below_at 64 (stops_in f) (d - 1) (rw F.stops stops-below) h
+    | yes h ↦ below_at 64 (stops_in f) (d - 1) (rw f.framed.stops stops-below) h
     | no h ↦ let e : stop_at (stops_in f) d ≡ 0 = get_or-eq_default (stops_in f) 0 (omega arith) in omega arith
   ]
 
@@ -136,10 +136,10 @@ module _ (f : Frame) (F : Framed f) where
     filling-gaps = omega (arith, W.full.gaps, gaps-few)
 
     pub filling-few : length (concat xs) ≤ 7
-    filling-few = omega (arith, full-few (gap_count f) (drained_count f) xs W.full, F.few)
+    filling-few = omega (arith, full-few (gap_count f) (drained_count f) xs W.full, f.framed.few)
 
     pub filling-places : Places xs
-    filling-places = full-places (gap_count f) (drained_count f) xs W.full F.few
+    filling-places = full-places (gap_count f) (drained_count f) xs W.full f.framed.few
 
     codes-few : length (said f w) ≤ 7
     codes-few =

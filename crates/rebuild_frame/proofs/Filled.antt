@@ -2,11 +2,11 @@
 use Prim.Native.Nat.{ℕ, zero, suc, ◌+◌, ◌-◌, ◌≤◌, ◌<◌}
 use native.Mathlib.Omega.{arith}
 use native.Mathlib.Decide.{dec_lt}
-use mathlib.Core.Path.{◌≡◌, refl, sym, ap, ap₂, ◌∙◌}
+use mathlib.Core.Path.{◌≡◌, refl, sym, ap, ◌∙◌}
 use mathlib.Core.List.{List, ◌++◌}
 use lib.ListN.{length, get_or, take, drop, replicate, length-append, length-drop, length-replicate}
 use lib.Seq.{take_at, drop_at, get_or-take, get_or-drop, length-take-le}
-use Rattle.model.specs.Plan.{Plan, placed}
+use Rattle.model.specs.Plan.{placed}
 use Rattle.model.specs.declared.Region.{Region}
 use Rattle.model.specs.Region.{drained}
 use Rattle.model.proofs.Counts.{Below, below_at}
@@ -16,9 +16,7 @@ use Rattle.solution.specs.Held.{routes}
 use Rattle.pasting.specs.Put.{put}
 use Rattle.pasting.proofs.Put.{length-put, drop-put}
 use Rattle.rebuild_words.specs.Gaps.{no_region, Gapped}
-use Rattle.rebuild_tables.specs.declared.Frame.{Frame}
-use Rattle.rebuild_tables.specs.Frame.{framed_plan, framed_regions, stops_in, Framing}
-use Rattle.rebuild_frame.specs.Listing.{StopsSmall}
+use Rattle.rebuild_tables.specs.Framed.{Framed}
 
 -- ---- a list that is put into another, number by number
 
@@ -65,65 +63,53 @@ backed xs k n d e h = omega (arith, length-append xs (drop k (replicate n d)), l
 -- ---- the frame
 
 -- what stands in a frame that is filled for a plan and its regions
-pub record Parts (plan : held.Plan) (regions : List Region) (f : Frame) : Type 0 where
-  pub gaps : f.gaps ≡ length regions
-  pub on_routes : f.placed ≡ placed (routes plan)
-  pub off_routes : f.drained ≡ length (drained (routes plan) regions)
-  pub spans : f.regions ≡ regions ++ drop (length regions) (replicate 3 no_region)
-  pub same : f.plan ≡ plan
-  pub listed : f.listed ≡ put (replicate 8 0) 1 (drained (routes plan) regions)
+pub record Parts (plan : held.Plan) (regions : List Region) (k m : ℕ) (spans : List Region) (listed : List ℕ) : Type 0 where
+  pub on_routes : k ≡ placed (routes plan)
+  pub off_routes : m ≡ length (drained (routes plan) regions)
+  pub copied : spans ≡ regions ++ drop (length regions) (replicate 3 no_region)
+  pub holds : listed ≡ put (replicate 8 0) 1 (drained (routes plan) regions)
 
 module _ (plan : held.Plan) (regions : List Region) (G : Gapped plan regions)
-    (few : length (drained (routes plan) regions) ≤ 7) (f : Frame) (K : Parts plan regions f) where
-  abbrev P : Plan
-  P = routes plan
-
+    (few : length (drained (routes plan) regions) ≤ 7) {k m : ℕ} {spans : List Region} {listed : List ℕ} (K : Parts plan regions k m spans listed) where
   abbrev stops : List ℕ
-  stops = drained P regions
+  stops = drained (routes plan) regions
 
-  places : length f.listed ≡ 8
-  places = ap length K.listed ∙ length-put (replicate 8 0) stops 1 (omega arith)
+  places : length listed ≡ 8
+  places = ap length K.holds ∙ length-put (replicate 8 0) stops 1 (omega arith)
 
-  regions-same : framed_regions f ≡ regions
-  regions-same = rw (K.gaps, K.spans) (take_at regions (drop (length regions) (replicate 3 no_region)) (length regions) refl)
+  pub regions-same : take (length regions) spans ≡ regions
+  regions-same = rw K.copied (take_at regions (drop (length regions) (replicate 3 no_region)) (length regions) refl)
 
-  stops_same : stops_in f ≡ stops
+  stops_same : take m (drop 1 listed) ≡ stops
   stops_same =
-      rw (K.off_routes, K.listed)
+      rw (K.off_routes, K.holds)
       (ap (take (length stops)) (drop_at (take 1 (replicate 8 0)) (stops ++ drop (1 + length stops) (replicate 8 0)) 1 refl)
       ∙ take_at stops (drop (1 + length stops) (replicate 8 0)) (length stops) refl)
 
-  plan-same : framed_plan f ≡ P
-  plan-same = ap routes K.same
-
   stops-below : Below 64 stops
-  stops-below s h = omega (arith, plan.lent.below s (omega (arith, drained-le P regions G.stretches s)), plan.sizes.stops)
+  stops-below s h = omega (arith, plan.lent.below s (omega (arith, drained-le (routes plan) regions G.stretches s)), plan.sizes.stops)
 
-  pub small-parts : StopsSmall f
+  pub small-parts : (i : ℕ) → get_or listed i 0 < 64
   small-parts i =
       let room : 1 + length stops ≤ 8 = omega arith in
       elim (dec_lt i 1) [
-        | yes h ↦ omega (arith, put_first (replicate 8 0) stops 1 room f.listed K.listed i h, zeros-small 8 i)
+        | yes h ↦ omega (arith, put_first (replicate 8 0) stops 1 room listed K.holds i h, zeros-small 8 i)
         | no k ↦ elim (dec_lt (i - 1) (length stops)) [
           | yes h ↦
               let e : 1 + (i - 1) ≡ i = omega arith in
-              omega (arith, ap (λ j. get_or f.listed j 0) e, put-here (replicate 8 0) stops 1 room f.listed K.listed (i - 1) h, below_at 64 stops (i - 1) stops-below h)
-          | no h ↦ omega (arith, put-past (replicate 8 0) stops 1 room f.listed K.listed i (omega arith), zeros-small 8 i)
+              omega (arith, ap (λ j. get_or listed j 0) e, put-here (replicate 8 0) stops 1 room listed K.holds (i - 1) h, below_at 64 stops (i - 1) stops-below h)
+          | no h ↦ omega (arith, put-past (replicate 8 0) stops 1 room listed K.holds i (omega arith), zeros-small 8 i)
         ]
       ]
 
-  pub framing : 0 < length regions → Framing plan regions f
-  framing some = record {
-    framed = record {
-      spans = ap length K.spans ∙ backed regions (length regions) 3 no_region refl G.few;
-      places = places;
-      some = omega (arith, K.gaps);
-      gaps = K.gaps ∙ sym (ap length regions-same);
-      gapped = rw (K.same, regions-same) G;
-      few = omega (arith, K.off_routes);
-      stops = stops_same ∙ sym (ap₂ drained plan-same regions-same);
-      placed = K.on_routes ∙ ap placed (sym plan-same);
-    };
-    same = K.same;
-    spans = regions-same;
+  pub framed : 0 < length regions → Framed (length regions) k m spans listed plan
+  framed some = record {
+    spans = ap length K.copied ∙ backed regions (length regions) 3 no_region refl G.few;
+    places = places;
+    some = some;
+    gaps = sym (ap length regions-same);
+    gapped = rw regions-same G;
+    few = omega (arith, K.off_routes);
+    stops = stops_same ∙ sym (ap (drained (routes plan)) regions-same);
+    placed = K.on_routes;
   }

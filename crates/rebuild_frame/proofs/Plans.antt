@@ -10,14 +10,14 @@ use Rattle.rebuild_words.specs.Words.{Word, plan_of}
 use Rattle.rebuild_words.specs.Gaps.{Gapped}
 use Rattle.rebuild_fillings.specs.Rows.{digits_of, placements, filling_of, Full}
 use Rattle.rebuild_fillings.proofs.Rows.{word-plan}
-use Rattle.rebuild_tables.specs.declared.Frame.{Frame}
-use Rattle.rebuild_tables.specs.Frame.{gap_count, stop_total, drained_count, framed_plan, framed_regions, plan_by, form_of, Framed, Placeable}
+use Rattle.rebuild_tables.specs.declared.frame.Frame.{Frame}
+use Rattle.rebuild_tables.specs.Frame.{gap_count, stop_total, drained_count, framed_plan, framed_regions, plan_by, form_of, Placeable}
 use Rattle.rebuild_tables.proofs.Plans.{plan-few, plan-lent}
 use Rattle.rebuild_frame.proofs.Codes.{said, stops-below, drained-many, filling-gaps, filling-few, filling-places}
 
 -- ---- the plan of a word
 
-module _ (f : Frame) (F : Framed f) (w : ℕ) (W : Placeable f w) where
+module _ (f : Frame) (w : ℕ) (W : Placeable f w) where
   abbrev P : Plan
   P = framed_plan f
 
@@ -25,24 +25,24 @@ module _ (f : Frame) (F : Framed f) (w : ℕ) (W : Placeable f w) where
   gs = framed_regions f
 
   full : Full (length gs) (drained_count f) (filling_of w)
-  full = record { gaps = W.full.gaps ∙ F.gaps; each = W.full.each }
+  full = record { gaps = W.full.gaps ∙ f.framed.gaps; each = W.full.each }
 
   said-plan : plan_of P gs (said f w) ≡ plan_by f (filling_of w)
   said-plan =
-      ap₂ (λ l v. plan_of P gs (placements l 0 (digits_of 16 v))) F.stops W.says
-      ∙ word-plan P gs (filling_of w) (stops-below f F) full.gaps (filling-gaps f F w W) (filling-few f F w W) (filling-places f F w W)
+      ap₂ (λ l v. plan_of P gs (placements l 0 (digits_of 16 v))) f.framed.stops W.says
+      ∙ word-plan P gs (filling_of w) (stops-below f) full.gaps (filling-gaps f w W) (filling-few f w W) (filling-places f w W)
 
   by-few : placed (plan_by f (filling_of w)) ≤ stop_total f
-  by-few = plan-few f.plan.v f.plan.n _ f.plan.lent gs (filling_of w) (drained_count f) full (drained-many f F) F.gapped.stretches
+  by-few = plan-few f.plan.v f.plan.n _ f.plan.lent gs (filling_of w) (drained_count f) full (drained-many f) f.framed.gapped.stretches
 
   pub form-lent : Lent f.plan.v f.plan.n (form_of f w)
-  form-lent = plan-lent f.plan.v f.plan.n _ f.plan.lent gs (filling_of w) (drained_count f) full (drained-many f F) F.gapped.stretches
+  form-lent = plan-lent f.plan.v f.plan.n _ f.plan.lent gs (filling_of w) (drained_count f) full (drained-many f) f.framed.gapped.stretches
 
   -- ---- as the code takes the parts, of which there are p regions
 
   module _ (p : ℕ) (ep : p ≡ gap_count f) where
     pub parts-gapped : Gapped f.plan (take p f.regions)
-    parts-gapped = rw ep F.gapped
+    parts-gapped = rw ep f.framed.gapped
 
     module _ (codes : Word) (e : codes ≡ said f w) where
       parts-plan : plan_of P (take p f.regions) codes ≡ plan_by f (filling_of w)

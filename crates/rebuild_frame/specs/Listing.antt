@@ -5,7 +5,7 @@ use Rattle.model.specs.Plan.{Plan}
 use Rattle.model.specs.declared.Region.{Region}
 use Rattle.model.specs.Region.{drained}
 use Rattle.pasting.specs.Put.{put}
-use Rattle.rebuild_tables.specs.declared.Frame.{Frame}
+use Rattle.rebuild_tables.specs.declared.frame.Frame.{Frame}
 use Rattle.rebuild_fillings.specs.Walk.{own}
 use Rattle.rebuild_fillings.specs.Rows.{number_from, word_of}
 

@@ -9,7 +9,7 @@ ghost use Rattle.solution.specs.Held.{routes, Becomes};
 ghost use Rattle.rebuild_words.specs.Gaps.{Gapped};
 ghost use Rattle.rebuild_fillings.specs.Walk.{own};
 ghost use Rattle.rebuild_fillings.specs.Rows.{word_of, filling_of, digits_of, placements};
-ghost use Rattle.rebuild_tables.specs.Frame.{gap_count, placed_count, drained_count, stops_in, plan_by, form_of, Framed, Placeable, Framing};
+ghost use Rattle.rebuild_tables.specs.Frame.{gap_count, placed_count, drained_count, stops_in, plan_by, form_of, Placeable, Framing};
 ghost use Rattle.rebuild_frame.specs.Listing.{Listable, GapListed, AllListed, StopsSmall};
 
 use model::Region;
@@ -37,9 +37,9 @@ pub fn drained(frame: &Frame) -> u32
     frame.drained
 }
 
-// Writes how a word places stops, as codes 64 * gap + stop, and returns how many there are.
+// Writes how a word places stops, as codes 64 * gap + stop, which `compose` reads, and returns how many there are.
 fn codes_of(frame: &Frame, word: u64, codes: &mut [u32; 7]) -> usize
-    requires { Framed frame.now × Placeable frame.now word × (length codes.old ≡ 7) }
+    requires { Placeable frame.now word × (length codes.old ≡ 7) }
     ensures { (take result codes.new ≡ placements (stops_in frame.now) 0 (digits_of 16 word)) × (result ≤ length codes.new) }
 {
     let mut m = 0;
@@ -58,7 +58,7 @@ fn codes_of(frame: &Frame, word: u64, codes: &mut [u32; 7]) -> usize
 
 // Writes the lent form of the plan of a word to the front of a plan's numbers.
 fn write_form(frame: &Frame, word: u64, numbers: &mut [u32; 80])
-    requires { Framed frame.now × Placeable frame.now word }
+    requires { Placeable frame.now word }
     ensures { take (frame.now.plan.v + frame.now.plan.n) numbers.new ≡ form_of frame.now word }
 {
     let mut codes = [0u32; 7];
@@ -75,7 +75,7 @@ fn write_form(frame: &Frame, word: u64, numbers: &mut [u32; 80])
 
 // The plan of a word.
 pub fn plan_of(frame: &Frame, word: u64) -> Plan
-    requires { Framed frame.now × Placeable frame.now word }
+    requires { Placeable frame.now word }
     ensures { Becomes frame.now.plan result (plan_by frame.now (filling_of word)) }
 {
     let mut numbers = [0u32; 80];
@@ -90,7 +90,7 @@ pub fn plan_of(frame: &Frame, word: u64) -> Plan
 // Whether the plan of a word is lower than that of another: the first number that differs in their lent forms is. Only the numbers are
 // written, as this is asked for each arrangement that costs what the best one does.
 pub fn is_lower(frame: &Frame, word: u64, other: u64) -> bool
-    requires { Framed frame.now × Placeable frame.now word × Placeable frame.now other }
+    requires { Placeable frame.now word × Placeable frame.now other }
     ensures { result ≡ lower (form_of frame.now word) (form_of frame.now other) }
 {
     let m = frame.plan.v + frame.plan.n;

@@ -24,7 +24,7 @@ use Rattle.rebuild_fillings.proofs.Calls.{call_count-on, call_count-small}
 use Rattle.rebuild_fillings.proofs.Places.{placed-all, standing-start}
 use Rattle.rebuild_fillings.proofs.Rows.{word-start}
 use Rattle.rebuild_fillings.proofs.Reading.{reached-start, read_done, read_here}
-use Rattle.rebuild_tables.specs.declared.Frame.{Frame}
+use Rattle.rebuild_tables.specs.declared.frame.Frame.{Frame}
 use Rattle.rebuild_tables.specs.Frame.{gap_count, drained_count, framed_plan, framed_regions, plan_by}
 use Rattle.rebuild_ways.specs.declared.Ways.{Ways}
 use Rattle.rebuild_ways.specs.Ways.{own_at}
@@ -52,13 +52,13 @@ module _ (ways : Ways) (f : Frame) (kept : Kept) (others best : Float) (W : Visi
   size_is = ap length e ∙ length-up_from 1 m
 
   done_none : done_of 0 8 ≡ []
-  done_none = ap (done_of 0) (sym word-start) ∙ read_done m 0 (up_from 1 m) [] [] (standing-start m) W.tabled.framed.few (omega arith)
+  done_none = ap (done_of 0) (sym word-start) ∙ read_done m 0 (up_from 1 m) [] [] (standing-start m) f.framed.few (omega arith)
 
   here-none : here_of 0 8 ≡ []
-  here-none = ap (here_of 0) (sym word-start) ∙ read_here m 0 (up_from 1 m) [] [] (standing-start m) W.tabled.framed.few (omega arith)
+  here-none = ap (here_of 0) (sym word-start) ∙ read_here m 0 (up_from 1 m) [] [] (standing-start m) f.framed.few (omega arith)
 
   few-gaps : p ≤ 3
-  few-gaps = omega (arith, W.tabled.framed.gaps, W.tabled.framed.gapped.few)
+  few-gaps = omega (arith, f.framed.gaps, f.framed.gapped.few)
 
   -- the first call
   pub first-call : (own : Float) → own ≡ whole (own_at ways 0) → Walkable ways f kept 0 left 8 own others best
@@ -66,13 +66,13 @@ module _ (ways : Ways) (f : Frame) (kept : Kept) (others best : Float) (W : Visi
   first-call own eo = record {
     tabled = W.tabled;
     here = record {
-      gap = W.tabled.framed.some;
-      at = rw e (reached-start m W.tabled.framed.few);
+      gap = f.framed.some;
+      at = rw e (reached-start m f.framed.few);
       gone = eo ∙ ap whole (rw here-none (omega arith));
       besides = W.start ∙ ap whole (rw (done_none, size_is) (omega (arith, driven-none ways 0)));
     };
     held = W.held;
-    room = λ r h. omega (arith, W.fresh r (omega (arith, few-gaps)), call_count-small r 0 (length (stops_of left)) (omega (arith, few-gaps)) (omega (arith, size_is, W.tabled.framed.few)));
+    room = λ r h. omega (arith, W.fresh r (omega (arith, few-gaps)), call_count-small r 0 (length (stops_of left)) (omega (arith, few-gaps)) (omega (arith, size_is, f.framed.few)));
   }
 
   abbrev P : Plan
@@ -88,18 +88,18 @@ module _ (ways : Ways) (f : Frame) (kept : Kept) (others best : Float) (W : Visi
       ∙ fillings_from-none p (up_from 1 m)
 
   once : Once (drained P gs)
-  once = once-drained P gs W.tabled.framed.gapped.stretches f.plan.lent.once
+  once = once-drained P gs f.framed.gapped.stretches f.plan.lent.once
 
   -- the plans met are the arrangements, in the order of the definition
   pub plans-all : plans_met f 0 left 8 ≡ arrangements P gs
   plans-all =
-      ap (λ (l : List ℕ). plans_from (plan_by f) p 0 l (done_of 0 8) (here_of 0 8)) (e ∙ ap (up_from 1) (drained-many f W.tabled.framed))
+      ap (λ (l : List ℕ). plans_from (plan_by f) p 0 l (done_of 0 8) (here_of 0 8)) (e ∙ ap (up_from 1) (drained-many f))
       ∙ ap₂ (plans_from (plan_by f) p 0 (up_from 1 (length (drained P gs)))) done_none here-none
-      ∙ ap (λ (k : ℕ). plans_from (plan_by f) k 0 (up_from 1 (length (drained P gs))) [] []) W.tabled.framed.gaps
+      ∙ ap (λ (k : ℕ). plans_from (plan_by f) k 0 (up_from 1 (length (drained P gs))) [] []) f.framed.gaps
       ∙ placed-all P gs once
 
   some-gaps : 0 < length gs
-  some-gaps = omega (arith, W.tabled.framed.gaps, W.tabled.framed.some)
+  some-gaps = omega (arith, f.framed.gaps, f.framed.some)
 
   module _ (k : Kept) (found : Float) (w : Walked ways f kept 0 left 8 k found) where
     calls : (r : ℕ) → r < p → calls_in k r ≡ arrangement_count (suc r) (length (drained P gs))
@@ -110,16 +110,16 @@ module _ (ways : Ways) (f : Frame) (kept : Kept) (others best : Float) (W : Visi
           w.counted r h,
           W.fresh r (omega (arith, few-gaps)),
           call_count-on r 0 (length (stops_of left)) (omega arith)
-              ∙ ap₂ arrangement_count a (size_is ∙ drained-many f W.tabled.framed),
+              ∙ ap₂ arrangement_count a (size_is ∙ drained-many f),
         )
 
     pub visited : Visited ways f kept k found
     visited = record {
       held = w.held;
       chosen = λ J pr. w.chosen J pr ∙ ap (choose J (best_plan f kept)) plans-all;
-      started = calls 0 W.tabled.framed.some ∙ sym (begun-count P gs some-gaps);
+      started = calls 0 f.framed.some ∙ sym (begun-count P gs some-gaps);
       met =
-          let a : suc (p - 1) ≡ length gs = omega (arith, W.tabled.framed.gaps, W.tabled.framed.some) in
-          calls (p - 1) (omega (arith, W.tabled.framed.some)) ∙ ap (λ (g : ℕ). arrangement_count g (length (drained P gs))) a ∙ sym (completed-count P gs some-gaps);
+          let a : suc (p - 1) ≡ length gs = omega (arith, f.framed.gaps, f.framed.some) in
+          calls (p - 1) (omega (arith, f.framed.some)) ∙ ap (λ (g : ℕ). arrangement_count g (length (drained P gs))) a ∙ sym (completed-count P gs some-gaps);
       noted = w.noted ∙ ap (λ (l : List Filling). trail_from kept.trail (map word_of l)) met_all;
     }

@@ -28,7 +28,7 @@ use Rattle.rebuild_fillings.proofs.Calls.{call_count-step, call_count-before}
 use Rattle.rebuild_fillings.proofs.Plans.{choose-next, choose-last, choose-stop, choose-none}
 use Rattle.rebuild_fillings.proofs.Reading.{reached-below, stop-done, stop-here}
 use Rattle.rebuild_fillings.proofs.Full.{full-worded}
-use Rattle.rebuild_tables.specs.declared.Frame.{Frame}
+use Rattle.rebuild_tables.specs.declared.frame.Frame.{Frame}
 use Rattle.rebuild_tables.specs.Frame.{gap_count, placed_count, drained_count, plan_by, form_of, Placeable}
 use Rattle.rebuild_ways.specs.declared.Ways.{Ways}
 use Rattle.rebuild_tables.specs.Ways.{cost_by}
@@ -98,7 +98,7 @@ module _ {ways : Ways} {f : Frame} {kept : Kept} {q left word : ℕ} {len others
   L = stops_of left
 
   pub gaps-few : p ≤ 3
-  gaps-few = omega (arith, c.tabled.framed.gaps, c.tabled.framed.gapped.few)
+  gaps-few = omega (arith, f.framed.gaps, f.framed.gapped.few)
 
   pub gap-low : q < 3
   gap-low = omega (arith, gaps-few, c.here.gap)
@@ -167,7 +167,7 @@ module _ {ways : Ways} {f : Frame} {kept : Kept} {q left word : ℕ} {len others
           subst (λ (k : ℕ). FullIn f (done_of q word ++ here_of q word ∷ empties k)) z (padded-is c.tabled c.here)
 
       reads : (filling_of word ≡ X) × Placeable f word
-      reads = full-worded p m X full gaps-few c.tabled.framed.few word c.here.at.says
+      reads = full-worded p m X full gaps-few f.framed.few word c.here.at.says
 
       module _ (cost : Float) (ec : cost ≡ whole (cost_by ways m (padded c.tabled c.here))) where
         cost-here : cost ≡ whole (cost_by ways m X)
@@ -177,7 +177,6 @@ module _ {ways : Ways} {f : Frame} {kept : Kept} {q left word : ℕ} {len others
 
         pub meet-asks : Comparable f counted word cost best
         meet-asks = record {
-          framed = c.tabled.framed;
           own = reads.1;
           other = rw C.best c.held.word;
           known = (cost_by ways m X, c.tabled.small X full, cost-here);
@@ -190,7 +189,7 @@ module _ {ways : Ways} {f : Frame} {kept : Kept} {q left word : ℕ} {len others
             omega (arith, standing-size m q L (done_of q word) (here_of q word) c.here.at.standing)
 
         placed-here : placed (plan_by f X) + size left ≡ placed_count f
-        placed-here = omega (arith, framed-placed f c.tabled.framed X full, few-left)
+        placed-here = omega (arith, framed-placed f X full, few-left)
 
         pub meet_left : size left ≤ placed_count f
         meet_left = omega (arith, placed-here)

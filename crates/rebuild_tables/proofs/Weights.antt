@@ -20,7 +20,7 @@ use Rattle.rebuild_fillings.proofs.Places.{standing-place, standing-stop}
 use Rattle.rebuild_fillings.proofs.Rows.{word-last}
 use Rattle.rebuild_fillings.proofs.Reading.{reached-next, reached-stop, next-done, next_here, stop-done, stop-here}
 use Rattle.rebuild_fillings.proofs.Full.{padded-full}
-use Rattle.rebuild_tables.specs.declared.Frame.{Frame}
+use Rattle.rebuild_tables.specs.declared.frame.Frame.{Frame}
 use Rattle.rebuild_tables.specs.Frame.{gap_count, drained_count}
 use Rattle.rebuild_ways.specs.declared.Ways.{Ways}
 use Rattle.rebuild_ways.specs.Ways.{way_at, own_at, vacant_at, prices_at}
@@ -102,7 +102,7 @@ module _ {ways : Ways} {f : Frame} (T : Tabled ways f) {q left word : ℕ} {len 
     r = q + 1
 
     low : q + 1 ≤ 2
-    low = omega (arith, k, T.framed.gaps, T.framed.gapped.few)
+    low = omega (arith, k, f.framed.gaps, f.framed.gapped.few)
 
     same_word : w ≡ word * 16 + 8 + (q + 1)
     same_word = omega arith

@@ -1,14 +1,12 @@
 -- A frame: the gaps, the plan and the drained stops of a walk, and the plan that a word stands for in it.
-use Rattle.std.specs.Prelude.{◌≡◌, ℕ, ◌≤◌, ◌<◌, List, length, take, drop}
-use Rattle.model.specs.Plan.{Plan, encode, placed}
+use Rattle.std.specs.Prelude.{◌≡◌, ℕ, List, take, drop}
+use Rattle.model.specs.Plan.{Plan, encode}
 use Rattle.model.specs.declared.Region.{Region}
-use Rattle.model.specs.Region.{drained}
 use Rattle.solution.specs.declared.plan.Plan as held
 use Rattle.solution.specs.Held.{routes}
-use Rattle.rebuild_words.specs.Gaps.{Gapped}
 use Rattle.rebuild_fillings.specs.Walk.{Filling, plan_at}
 use Rattle.rebuild_fillings.specs.Rows.{filling_of, Worded}
-use Rattle.rebuild_tables.specs.declared.Frame.{Frame}
+use Rattle.rebuild_tables.specs.declared.frame.Frame.{Frame}
 
 -- how many gaps there are
 abbrev pub gap_count : Frame → ℕ
@@ -46,23 +44,11 @@ plan_by f xs = plan_at (framed_plan f) (framed_regions f) xs
 abbrev pub form_of : Frame → ℕ → List ℕ
 form_of f w = encode (stop_total f) (plan_by f (filling_of w))
 
--- the parts of a frame belong together: at most seven stops are drained
-pub record Framed (f : Frame) : Type 0 where
-  pub spans : length f.regions ≡ 3
-  pub places : length f.listed ≡ 8
-  pub some : 0 < gap_count f
-  pub gaps : gap_count f ≡ length (framed_regions f)
-  pub gapped : Gapped f.plan (framed_regions f)
-  pub few : drained_count f ≤ 7
-  pub stops : stops_in f ≡ drained (framed_plan f) (framed_regions f)
-  pub placed : placed_count f ≡ placed (framed_plan f)
-
 -- w is the word of an arrangement of the frame's stops in its gaps
 abbrev pub Placeable : Frame → ℕ → Type 0
 Placeable f w = Worded (gap_count f) (drained_count f) w
 
 -- f is the frame of a plan and its regions
 pub record Framing (plan : held.Plan) (regions : List Region) (f : Frame) : Type 0 where
-  pub framed : Framed f
   pub same : f.plan ≡ plan
   pub spans : framed_regions f ≡ regions

@@ -3,9 +3,9 @@ use Rattle.std.specs.Prelude.{◌≡◌, Bool, true, false, ◌&&◌, ◌||◌, 
 use Rattle.model.specs.Lists.{lower}
 use Rattle.model.specs.StopSet.{stops_of}
 use Rattle.model.specs.Whole.{amount, IsWhole}
-use Rattle.rebuild_tables.specs.declared.Frame.{Frame}
+use Rattle.rebuild_tables.specs.declared.frame.Frame.{Frame}
 use Rattle.rebuild_tables.specs.declared.Kept.{Kept}
-use Rattle.rebuild_tables.specs.Frame.{placed_count, form_of, Framed, Placeable}
+use Rattle.rebuild_tables.specs.Frame.{placed_count, form_of, Placeable}
 
 -- ---- the trail: one number, which all words that were met and their order make
 
@@ -39,7 +39,6 @@ wins f kept placed word cost best = prefers (amount cost) placed (form_of f word
 
 -- what is asked to compare the arrangement of a word with the best so far
 pub record Comparable (f : Frame) (kept : Kept) (word : ℕ) (cost best : Float) : Type 0 where
-  pub framed : Framed f
   pub own : Placeable f word
   pub other : Placeable f kept.best
   pub known : IsWhole cost

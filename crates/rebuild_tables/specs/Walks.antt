@@ -10,9 +10,9 @@ use Rattle.model.specs.Lists.{up_from}
 use Rattle.model.specs.Rebuild.{choose, fillings, arrangements, begun, completed}
 use Rattle.rebuild_fillings.specs.Walk.{Filling, empties, fillings_from, plans_from, call_count}
 use Rattle.rebuild_fillings.specs.Rows.{word_of, filling_of, done_of, here_of, Reached, Full}
-use Rattle.rebuild_tables.specs.declared.Frame.{Frame}
+use Rattle.rebuild_tables.specs.declared.frame.Frame.{Frame}
 use Rattle.rebuild_tables.specs.declared.Kept.{Kept}
-use Rattle.rebuild_tables.specs.Frame.{gap_count, stop_total, drained_count, framed_plan, framed_regions, plan_by, Framed, Placeable}
+use Rattle.rebuild_tables.specs.Frame.{gap_count, stop_total, drained_count, framed_plan, framed_regions, plan_by, Placeable}
 use Rattle.rebuild_ways.specs.declared.Ways.{Ways}
 use Rattle.rebuild_ways.specs.Ways.{own_at, vacant_at, prices_at, base_at}
 use Rattle.rebuild_tables.specs.Kept.{calls_in}
@@ -25,7 +25,6 @@ FullIn f xs = Full (gap_count f) (drained_count f) xs
 
 -- both tables are right, and no arrangement's routes or cost leave the numbers that an f64 counts
 pub record Tabled (ways : Ways) (f : Frame) : Type 0 where
-  pub framed : Framed f
   pub prices : Affordable (prices_at ways)
   pub vacant : (q : ℕ) → q < gap_count f → vacant_at ways q ≡ price (prices_at ways) (route_by ways q [])
   pub short : (xs : Filling) → FullIn f xs → (q : ℕ) → q < gap_count f → route_by ways q (get_or xs q []) ≤ 16000000

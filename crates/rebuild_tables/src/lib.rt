@@ -1,22 +1,11 @@
 // The frame that the walk over the arrangements reads, what it keeps, and the definitions and laws of the walk.
 #![tactic(auto)]
 
+mod frame;
+
 ghost use Rattle.std.specs.Prelude.{◌≡◌, ◌≤◌, ◌<◌, length};
 
-use model::Region;
-use solution::Plan;
-
-// What is needed to write the plan of a word: how many gaps there are, how many stops are placed and how many drained, the regions, the drained
-// stops, of which the first is listed at place 1, and the plan.
-#[derive(Drop)]
-pub struct Frame {
-    pub gaps: usize,
-    pub placed: u32,
-    pub drained: u32,
-    pub regions: [Region; 3],
-    pub listed: [u32; 8],
-    pub plan: Plan,
-}
+pub use frame::Frame;
 
 // What a walk keeps: the word of the best arrangement, the stops that this places, how often it was called in each gap, and the trail of the
 // words that it met. So the calls in the first gap are the fillings of it that were begun, and those in the last gap the arrangements

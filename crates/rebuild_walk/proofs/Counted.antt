@@ -5,7 +5,7 @@ use Rattle.model.specs.StopSet.{stops_of, excluding}
 use Rattle.stop_set.specs.Answers.{First}
 use Rattle.model.specs.Whole.{whole, amount}
 use Rattle.model.specs.Cost.{price}
-use Rattle.rebuild_tables.specs.declared.Frame.{Frame}
+use Rattle.rebuild_tables.specs.declared.frame.Frame.{Frame}
 use Rattle.rebuild_tables.specs.Frame.{gap_count, placed_count}
 use Rattle.rebuild_ways.specs.declared.Ways.{Ways}
 use Rattle.rebuild_ways.specs.Ways.{way_at, own_at, vacant_at, prices_at}

@@ -7,7 +7,7 @@
 
 ghost use Rattle.std.specs.Prelude.{◌≡◌, ◌+◌, ◌*◌, ◌^◌, ◌<◌, ◌≤◌, length};
 ghost use Rattle.model.specs.StopSet.{stops_of};
-ghost use Rattle.rebuild_tables.specs.Frame.{placed_count, form_of, Framed, Placeable};
+ghost use Rattle.rebuild_tables.specs.Frame.{placed_count, form_of, Placeable};
 ghost use Rattle.rebuild_tables.specs.Meeting.{prefers_tie, trail_with, wins, Comparable, Met};
 ghost use Rattle.rebuild_tables.specs.Walks.{Walkable, Walked, Visitable, Visited};
 
@@ -16,7 +16,7 @@ use rebuild_ways::Ways;
 
 // Whether an arrangement that costs what the best one does, and places so many stops, takes its place.
 fn wins_tie(frame: &Frame, kept: &Kept, placed: u64, word: u64) -> bool
-    requires { Framed frame.now × Placeable frame.now word × Placeable frame.now kept.now.best }
+    requires { Placeable frame.now word × Placeable frame.now kept.now.best }
     ensures { result ≡ prefers_tie placed (form_of frame.now word) kept.now.most (form_of frame.now kept.now.best) }
 {
     kept.most < placed || placed == kept.most && rebuild_frame::is_lower(frame, word, kept.best)

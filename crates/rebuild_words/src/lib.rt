@@ -52,7 +52,8 @@ fn paste_region(
     pasting::paste(to, b, &route[past..])
 }
 
-// Writes the lent form of the plan that a word stands for: the given plan with what the word places in the regions in their place.
+// Writes the lent form of the plan that a word stands for: the given plan with what the word places in the regions in their place. A plan and
+// its regions are two values, since a rebuild writes the plan while it is lent the regions.
 pub fn compose(plan: &Plan, regions: &[Region], word: &[u32], to: &mut [u32])
     requires gapped { Gapped plan.now regions.now }
     requires to_len { (length to.old ≡ plan.now.v + plan.now.n) × (placed (plan_of (routes plan.now) regions.now word.now) ≤ plan.now.n) }

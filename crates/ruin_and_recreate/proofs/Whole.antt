@@ -122,8 +122,8 @@ module _ (t : Tariff) (s : Settings) (first : Plan) where
 
   module _ (plan : Plan) (p : Progress) where
     -- the course goes on
-    pub courses : (near draws : List ℕ) (c : ℕ) → Course t first.n near draws c → Within plan p → Course t plan.n near draws c
-    courses near draws c K W = rw W.stops K
+    pub courses : (near : List ℕ) → Course t first.n near s → Within plan p → Course t plan.n near s
+    courses near K W = rw W.stops K
 
     pub cut : Within plan p → s.limit ≤ p.rounds → Ended t s first plan p
     cut W h = record {
@@ -136,7 +136,7 @@ module _ (t : Tariff) (s : Settings) (first : Plan) where
           ∙ W.leads J F;
     }
 
-    module _ (next : Plan) (r : Progress) (W : Within plan p) (R : Rounded t s.draws.now s.smoothing plan p next r) (h : p.rounds < s.limit) where
+    module _ (next : Plan) (r : Progress) (W : Within plan p) (R : Rounded t s plan p next r) (h : p.rounds < s.limit) where
       led : (J : Job) → IsJobOf J t first → let T = task_by J s in
           remaining T (s.limit - r.rounds) (settles r.rounds r.averages) (state_of next r) ≡ remaining T s.limit false (start_state T)
       led J F =

@@ -19,7 +19,7 @@ fn rounds(
     plan: &mut Plan,
     start: f64,
 ) -> Progress
-    requires course { Course tariff.now plan.old.n near.now settings.now.draws.now settings.now.smoothing }
+    requires course { Course tariff.now plan.old.n near.now settings.now }
     requires started { Started tariff.now.legs.table plan.old.v plan.old.n plan.old × CostOf tariff.now plan.old start }
     ensures { Ended tariff.now settings.now plan.old plan.new result }
 {
@@ -31,7 +31,7 @@ fn rounds(
         place: 0,
     };
     for _done in 0..settings.limit {
-        p = run_round::round(tariff, near, settings.draws, settings.smoothing, plan, p);
+        p = run_round::round(tariff, near, settings, plan, p);
         let a = p.averages;
         if settle::settled(a, p.rounds) {
             return p;

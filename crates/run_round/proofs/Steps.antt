@@ -37,6 +37,7 @@ use Rattle.nearest_neighbor.proofs.Filling.{row-once}
 use Rattle.rebuild.specs.Leaves.{Leaves}
 use Rattle.run_draws.specs.Picks.{picked_from, Picked}
 use Rattle.run_draws.proofs.Picks.{picked_same}
+use Rattle.model.specs.declared.job.Settings.{Settings}
 use Rattle.run_round.specs.declared.Progress.{Progress}
 use Rattle.run_round.specs.Standing.{Counted, state_of, Course, Standing, Rounded}
 
@@ -93,37 +94,37 @@ cost-small J t q F =
       cost-exact J t.legs.table q.v q.n t.prices F t.legs.lengths q.sizes t.affordable (routes q) (omega (arith, lent_length q.v q.n _ q.lent)) q.lent.once q.lent.below,
     )
 
-module _ (J : Job) (t : Tariff) (near ds : List ℕ) (c : ℕ) (old : Plan) (F : IsJobOf J t old) (K : Course t old.n near ds c) where
+module _ (J : Job) (t : Tariff) (near : List ℕ) (s : Settings) (old : Plan) (F : IsJobOf J t old) (K : Course t old.n near s) where
   -- A round: the pass takes the plan old to mid, the rebuild of the picks takes mid to new, and p becomes r.
   module _ (mid new : Plan) (picks : List ℕ) (worth : Float) (p r : Progress) (S : Standing t old p)
-      (passes : Becomes old mid (two_opt_pass J (routes old) (drawn ds p.place % old.n)))
-      (drawn-picks : picks ≡ picked_from old.n (λ x. row_of old.n x near) ds p.place)
+      (passes : Becomes old mid (two_opt_pass J (routes old) (drawn s.draws.now p.place % old.n)))
+      (drawn-picks : picks ≡ picked_from old.n (λ x. row_of old.n x near) s.draws.now p.place)
       (rebuilds : Becomes mid new (rebuild J (routes mid) picks)) where
-    same-picks : picks ≡ picked_from (stop_count J) (neighbours J) ds p.place
+    same-picks : picks ≡ picked_from (stop_count J) (neighbours J) s.draws.now p.place
     same-picks =
         drawn-picks
-        ∙ picked_same old.n (λ x. row_of old.n x near) (neighbours J) ds p.place
-        ((K.rows _ (mod-lt (drawn ds (p.place + 2)) (omega (arith, K.several)))).ordered J old.v t.prices F)
-        ∙ ap (λ (m : ℕ). picked_from m (neighbours J) ds p.place) (sym F.stops)
+        ∙ picked_same old.n (λ x. row_of old.n x near) (neighbours J) s.draws.now p.place
+        ((K.rows _ (mod-lt (drawn s.draws.now (p.place + 2)) (omega (arith, K.several)))).ordered J old.v t.prices F)
+        ∙ ap (λ (m : ℕ). picked_from m (neighbours J) s.draws.now p.place) (sym F.stops)
 
-    passed : routes mid ≡ two_opt_pass J (routes old) (drawn ds p.place % old.n)
+    passed : routes mid ≡ two_opt_pass J (routes old) (drawn s.draws.now p.place % old.n)
     passed =
         holds-routes old.v old.n _ mid passes
-        ((two_opt_pass-moved J (routes old) (drawn ds p.place % old.n)).routes ∙ lent_length old.v old.n _ old.lent)
+        ((two_opt_pass-moved J (routes old) (drawn s.draws.now p.place % old.n)).routes ∙ lent_length old.v old.n _ old.lent)
 
     rebuilt : routes new ≡ rebuild J (routes mid) picks
     rebuilt = holds-routes mid.v mid.n _ new rebuilds (rebuild-length J (routes mid) picks ∙ lent_length mid.v mid.n _ mid.lent)
 
-    same-plan : routes new ≡ rebuild J (two_opt_pass J (routes old) (drawn ds p.place % stop_count J)) (picked_from (stop_count J) (neighbours J) ds p.place)
+    same-plan : routes new ≡ rebuild J (two_opt_pass J (routes old) (drawn s.draws.now p.place % stop_count J)) (picked_from (stop_count J) (neighbours J) s.draws.now p.place)
     same-plan =
         rebuilt
-        ∙ ap₂ (rebuild J) (passed ∙ ap (λ (m : ℕ). two_opt_pass J (routes old) (drawn ds p.place % m)) (sym F.stops)) same-picks
+        ∙ ap₂ (rebuild J) (passed ∙ ap (λ (m : ℕ). two_opt_pass J (routes old) (drawn s.draws.now p.place % m)) (sym F.stops)) same-picks
 
     -- the state that the code leaves is the one that the definition leaves
-    pub round-state : worth ≡ whole (cost J (routes new)) → Counted p worth (length picks) c r → (limit : ℕ)
-        → state_of new r ≡ (round_from (task_for J c limit ds) (state_of old p)).end
+    pub round-state : worth ≡ whole (cost J (routes new)) → Counted p worth (length picks) s.smoothing r → (limit : ℕ)
+        → state_of new r ≡ (round_from (task_for J s.smoothing limit s.draws.now) (state_of old p)).end
     round-state weighed counted limit =
-        let T = task_for J c limit ds in
+        let T = task_for J s.smoothing limit s.draws.now in
         let G = also J t old new (rebuilds.vehicles ∙ passes.vehicles) (rebuilds.stops ∙ passes.stops) F in
         let after = counted.is _ _ (cost-small J t old F) (cost-small J t new G) (S.costs J F) weighed in
         same-state _ _ _ _ _ _ _ _ _ _ refl after.0 (counted.rounds ∙ add-one p.rounds) after.1 counted.place
@@ -140,17 +141,17 @@ part-row x n near = let e : x * 64 + n - x * 64 ≡ n = omega arith in rw e
 pub part-picks : (k : ℕ) (picks : List ℕ) → take (k - 0) picks ≡ take k picks
 part-picks k picks = let e : k - 0 ≡ k = omega arith in rw e
 
-module _ (t : Tariff) (n : ℕ) (near ds : List ℕ) (c : ℕ) (K : Course t n near ds c) where
+module _ (t : Tariff) (n : ℕ) (near : List ℕ) (s : Settings) (K : Course t n near s) where
   pub row-lent : (x : ℕ) → x < n → Once (take (x * 64 + n - x * 64) (drop (x * 64) near))
   row-lent x h = rw (part-row x n near) (row-once t.legs.table n x near (K.rows x h))
 
-module _ (t : Tariff) (near ds : List ℕ) (c : ℕ) (old : Plan) (K : Course t old.n near ds c) where
+module _ (t : Tariff) (near : List ℕ) (s : Settings) (old : Plan) (K : Course t old.n near s) where
   module _ (part blank picks ps : List ℕ) (mid new : Plan) (x k : ℕ) (walk : Walk) (p r : Progress) (S : Standing t old p) where
-    pub rounded : x ≡ drawn ds p.place % old.n → x < old.n → part ≡ row_of old.n x near
+    pub rounded : x ≡ drawn s.draws.now p.place % old.n → x < old.n → part ≡ row_of old.n x near
         → ((J : Job) → IsJobOf J t old → (y : ℕ) → part ≡ neighbours J y → Becomes old mid (two_opt_pass J (routes old) y))
         → (mid.v ≡ old.v) × (mid.n ≡ old.n)
-        → Picked near old.n ds p.place blank k picks → ps ≡ take k picks → Leaves t mid ps new walk → Counted p walk.cost k c r
-        → Rounded t ds c old p new r
+        → Picked near old.n s.draws.now p.place blank k picks → ps ≡ take k picks → Leaves t mid ps new walk → Counted p walk.cost k s.smoothing r
+        → Rounded t s old p new r
     rounded ex hx er passes sizes picked e rebuilt counted =
         record {
           vehicles = rebuilt.vehicles ∙ sizes.0;
@@ -166,9 +167,9 @@ module _ (t : Tariff) (near ds : List ℕ) (c : ℕ) (old : Plan) (K : Course t 
               λ J limit F.
               let G = also J t old mid sizes.0 sizes.1 F in
               let H = also J t old new (rebuilt.vehicles ∙ sizes.0) (rebuilt.stops ∙ sizes.1) F in
-              round-state J t near ds c old F K mid new ps walk.cost p r S (passed J F) (e ∙ picked.drawn) (rebuilt.plan J G) (rebuilt.costs.job J H)
+              round-state J t near s old F K mid new ps walk.cost p r S (passed J F) (e ∙ picked.drawn) (rebuilt.plan J G) (rebuilt.costs.job J H)
               (rw (e, picked.long) counted) limit;
         }
       where
-        passed : (J : Job) → IsJobOf J t old → Becomes old mid (two_opt_pass J (routes old) (drawn ds p.place % old.n))
+        passed : (J : Job) → IsJobOf J t old → Becomes old mid (two_opt_pass J (routes old) (drawn s.draws.now p.place % old.n))
         passed J F = passes J F _ (er ∙ (K.rows x hx).ordered J old.v t.prices F ∙ ap (neighbours J) ex)

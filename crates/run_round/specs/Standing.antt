@@ -10,6 +10,7 @@ use Rattle.solution.specs.declared.plan.Plan.{Plan}
 use Rattle.solution.specs.Held.{routes}
 use Rattle.delivery.specs.Held.{IsJobOf}
 use Rattle.nearest_neighbor.specs.Answers.{Neighbours}
+use Rattle.model.specs.declared.job.Settings.{Settings}
 use Rattle.run_round.specs.declared.Progress.{Progress}
 
 -- the counts can go on
@@ -38,13 +39,13 @@ state_of plan p =
 abbrev pub CostOf : Tariff → Plan → Float → Type 0
 CostOf t plan c = (J : Job) → IsJobOf J t plan → c ≡ whole (cost J (routes plan))
 
--- what does not change in a run: the tariff, two stops or more, S(x) of each stop, the draws, the smoothing count
-pub record Course (t : Tariff) (n : ℕ) (near draws : List ℕ) (c : ℕ) : Type 0 where
+-- what does not change in a run: the tariff, two stops or more, S(x) of each stop, the settings
+pub record Course (t : Tariff) (n : ℕ) (near : List ℕ) (s : Settings) : Type 0 where
   pub several : 2 ≤ n
   pub long : length near ≡ 4096
   pub rows : Neighbours t.legs.table n near
-  pub some : 0 < length draws
-  pub smooth : 1 ≤ c
+  pub some : 0 < length s.draws.now
+  pub smooth : 1 ≤ s.smoothing
 
 -- what does: the plan, its cost, and the counts
 pub record Standing (t : Tariff) (plan : Plan) (p : Progress) : Type 0 where
@@ -54,9 +55,9 @@ pub record Standing (t : Tariff) (plan : Plan) (p : Progress) : Type 0 where
 
 -- a round takes a plan with p to a plan of the same sizes with r: it stands again, and for every job that fits the state is the one that the
 -- definition's round leaves
-pub record Rounded (t : Tariff) (draws : List ℕ) (c : ℕ) (old : Plan) (p : Progress) (new : Plan) (r : Progress) : Type 0 where
+pub record Rounded (t : Tariff) (s : Settings) (old : Plan) (p : Progress) (new : Plan) (r : Progress) : Type 0 where
   pub vehicles : new.v ≡ old.v
   pub stops : new.n ≡ old.n
   pub stands : Standing t new r
   pub rounds : r.rounds ≡ p.rounds + 1
-  pub is : (J : Job) (limit : ℕ) → IsJobOf J t old → state_of new r ≡ (round_from (task_for J c limit draws) (state_of old p)).end
+  pub is : (J : Job) (limit : ℕ) → IsJobOf J t old → state_of new r ≡ (round_from (task_for J s.smoothing limit s.draws.now) (state_of old p)).end

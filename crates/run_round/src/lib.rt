@@ -6,7 +6,7 @@ ghost use Rattle.model.specs.Whole.{whole, exact};
 ghost use Rattle.run_round.specs.Standing.{Countable, Counted, Course, Standing, Rounded};
 
 use distance::Tariff;
-use model::Averages;
+use model::{Averages, Settings};
 use solution::Plan;
 
 // What a run carries from round to round beside its plan: the averages, what the plan costs, the rounds done, the improving ones among them,
@@ -48,15 +48,15 @@ fn counted(p: Progress, new: f64, picks: usize, smoothing: u32) -> Progress
 pub fn round(
     tariff: &Tariff,
     near: &[u32],
-    draws: &[u32],
-    smoothing: u32,
+    settings: &Settings,
     plan: &mut Plan,
     p: Progress,
 ) -> Progress
-    requires course { Course tariff.now plan.old.n near.now draws.now smoothing }
+    requires course { Course tariff.now plan.old.n near.now settings.now }
     requires standing { Standing tariff.now plan.old p × (p.rounds < 4294967295) }
-    ensures { Rounded tariff.now draws.now smoothing plan.old p plan.new result }
+    ensures { Rounded tariff.now settings.now plan.old p plan.new result }
 {
+    let draws = settings.draws;
     let n = plan.n;
     let place = p.place;
     let row = run_draws::among(draws, place, n) * 64;
@@ -64,5 +64,5 @@ pub fn round(
     let mut picks = [0u32; 2];
     let k = run_draws::pick(near, n, draws, place, &mut picks);
     let walk = rebuild::rebuild(tariff, plan, &picks[0..k]);
-    counted(p, walk.cost, k, smoothing)
+    counted(p, walk.cost, k, settings.smoothing)
 }

@@ -1,4 +1,5 @@
-// The public calls, made for a call sheet and their answers printed.
+// The public calls, made for a call sheet and their answers printed. Each function ties a call to what is printed for it by its own contract:
+// one function of several would be handed the call and the definitions that it is equal to.
 #![tactic(auto)]
 
 ghost use Rattle.std.specs.Prelude.{◌≡◌, [], ◌∷◌, length};

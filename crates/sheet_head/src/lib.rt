@@ -5,6 +5,7 @@ mod head;
 mod numbers;
 
 ghost use Rattle.std.specs.Prelude.{◌≡◌};
+ghost use Rattle.std.specs.Result.{result_ok};
 ghost use Rattle.sheet_head.specs.Form.{has_given, least_given, most_given, has_plan, longest_plan};
 ghost use Rattle.sheet_head.specs.Numbered.{number_of_call, call_number, Numbered};
 ghost use Rattle.sheet_head.specs.Reading.{CountAt, ListAt, ListIf, Fits, Laid, CallAt, HeadAt};
@@ -29,23 +30,27 @@ pub enum Call {
 }
 
 // The call of a number.
-fn call_of(number: u32) -> Option<Call>
-    ensures { Numbered number result }
-{
-    match number {
-        1 => Some(Call::Weigh),
-        2 => Some(Call::StartPlan),
-        3 => Some(Call::TwoOpt),
-        4 => Some(Call::Rebuild),
-        5 => Some(Call::Exhaustive),
-        6 => Some(Call::Pruned),
-        7 => Some(Call::Solve),
-        8 => Some(Call::Arrive),
-        9 => Some(Call::Cancel),
-        10 => Some(Call::View),
-        11 => Some(Call::MoveStop),
-        12 => Some(Call::Roadworks),
-        _ => None,
+impl TryFrom<u32> for Call {
+    type Error = ();
+
+    ghost try_from_gives = { λ n r. Numbered n (result_ok r) };
+
+    fn try_from(number: u32) -> Result<Call, ()> {
+        match number {
+            1 => Ok(Call::Weigh),
+            2 => Ok(Call::StartPlan),
+            3 => Ok(Call::TwoOpt),
+            4 => Ok(Call::Rebuild),
+            5 => Ok(Call::Exhaustive),
+            6 => Ok(Call::Pruned),
+            7 => Ok(Call::Solve),
+            8 => Ok(Call::Arrive),
+            9 => Ok(Call::Cancel),
+            10 => Ok(Call::View),
+            11 => Ok(Call::MoveStop),
+            12 => Ok(Call::Roadworks),
+            _ => Err(()),
+        }
     }
 }
 
@@ -126,13 +131,13 @@ impl Call {
     }
 }
 
-// The same for the call of a number. A number of no call has none.
+// The same for the call of a number, which a caller may have that has no `Call`. A number of no call has none.
 pub fn has_plan(call: u32) -> bool
     ensures { result ≡ has_plan call }
 {
-    match call_of(call) {
-        Some(call) => call.has_plan(),
-        None => false,
+    match Call::try_from(call) {
+        Ok(call) => call.has_plan(),
+        Err(()) => false,
     }
 }
 
@@ -164,7 +169,7 @@ fn read_call(bytes: &[u8], at: usize) -> Option<Call>
     if !file_lines::check_line(bytes, at, 1) {
         return None;
     }
-    call_of(file_columns::number_at(bytes, at))
+    Call::try_from(file_columns::number_at(bytes, at)).ok()
 }
 
 // The lines of a sheet before its job file.

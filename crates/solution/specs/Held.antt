@@ -21,3 +21,7 @@ pub record Holds (v n : ℕ) (P : form.Plan) (p : Plan) : Type 0 where
 -- the same plan with other routes
 abbrev pub Becomes : Plan → Plan → form.Plan → Type 0
 Becomes old new P = Holds old.v old.n P new
+
+-- a plan of as many vehicles and stops
+abbrev pub SizesKept : Plan → Plan → Type 0
+SizesKept old new = (new.v ≡ old.v) × (new.n ≡ old.n)

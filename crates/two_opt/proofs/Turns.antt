@@ -2,11 +2,11 @@
 use mathlib.Core.Path.{◌≡◌, refl, sym, ap, ◌∙◌, subst}
 use mathlib.Core.Logic.{◌≢◌}
 use mathlib.Core.List.{List, [], ◌∷◌, ◌++◌, map}
-use Prim.Native.Nat.{ℕ, suc, ◌+◌, ◌<◌, ◌≤◌, min}
+use Prim.Native.Nat.{ℕ, suc, ◌+◌, ◌-◌, ◌<◌, ◌≤◌, min}
 use native.Mathlib.Omega.{arith}
 use native.Mathlib.Numerals.{add-one}
-use lib.ListN.{length, get_or, take, drop, drop_of_length-le}
-use lib.Seq.{drop-cons}
+use lib.ListN.{length, get_or, take, drop, drop_of_length-le, length-drop}
+use lib.Seq.{drop-cons, get_or-drop, take_all}
 use Rattle.std.proofs.lemmas.List.{take_min}
 use Rattle.model.specs.Lists.{pairs, Once}
 use Rattle.model.specs.Job.{Job}
@@ -50,6 +50,18 @@ apart-left (x ∷ ps) qs a = (a.0, apart-left ps qs a.1)
 -- two stops of a list differ
 pub stops-apart : (xs : List ℕ) (i j : ℕ) → Once xs → i < j → j < length xs → get_or xs i 0 ≢ get_or xs j 0
 stops-apart xs i j o h g e = let s : i ≡ j = once-place xs i j o (omega arith) g e in omega arith
+
+-- the stops after the i-th
+abbrev pub after : List ℕ → ℕ → List ℕ
+after xs i = take (length xs - (i + 1)) (drop (i + 1) xs)
+
+pub later : (xs : List ℕ) (i : ℕ) → after xs i ≡ drop (suc i) xs
+later xs i = rw add-one (take_all (length xs - suc i) (drop (suc i) xs) (omega (arith, length-drop (suc i) xs)))
+
+pub later-apart : (xs : List ℕ) (i k : ℕ) → Once xs → k < length (after xs i) → get_or xs i 0 ≢ get_or (after xs i) k 0
+later-apart xs i k o h =
+    let inside : k < length (drop (suc i) xs) = rw (later xs i) at h in
+    rw (later xs i, get_or-drop (suc i) xs k 0) (stops-apart xs i (suc i + k) o (omega arith) (omega (arith, inside, length-drop (suc i) xs)))
 
 -- ---- the pairs of one position
 

@@ -6,7 +6,7 @@ ghost use Rattle.model.specs.Lists.{pairs, Once};
 ghost use Rattle.model.specs.Job.{Job};
 ghost use Rattle.model.specs.Nearest.{neighbours};
 ghost use Rattle.model.specs.TwoOpt.{two_opt, two_opt_all, two_opt_pass};
-ghost use Rattle.solution.specs.Held.{routes, Becomes};
+ghost use Rattle.solution.specs.Held.{routes, Becomes, SizesKept};
 ghost use Rattle.delivery.specs.Held.{IsJobOf};
 ghost use Rattle.two_opt.specs.Pairs.{pairs_of};
 
@@ -18,7 +18,7 @@ use two_opt_inter::Visit;
 pub fn pair(tariff: &Tariff, plan: &mut Plan, s: u32, t: u32)
     requires { s ≡ t → ⊥ }
     ensures plan_after { (J : Job) → IsJobOf J tariff.now plan.old → Becomes plan.old plan.new (two_opt J (routes plan.old) s t) }
-    ensures sizes { (plan.new.v ≡ plan.old.v) × (plan.new.n ≡ plan.old.n) }
+    ensures sizes { SizesKept plan.old plan.new }
 {
     let Some(x) = plan.find(s) else {
         return;
@@ -48,11 +48,11 @@ fn pairs_of(tariff: &Tariff, plan: &mut Plan, stops: &[u32], i: usize)
     requires { Once stops.now × (i < length stops.now) }
     ensures plan_after { (J : Job) → IsJobOf J tariff.now plan.old
         → Becomes plan.old plan.new (two_opt_all J (routes plan.old) (pairs_of i stops.now)) }
-    ensures sizes { (plan.new.v ≡ plan.old.v) × (plan.new.n ≡ plan.old.n) }
+    ensures sizes { SizesKept plan.old plan.new }
 {
     let s = stops[i];
-    for j in i + 1..stops.len() {
-        pair(tariff, plan, s, stops[j]);
+    for &t in &stops[i + 1..] {
+        pair(tariff, plan, s, t);
     }
 }
 
@@ -61,7 +61,7 @@ fn all_pairs(tariff: &Tariff, plan: &mut Plan, stops: &[u32])
     requires { Once stops.now }
     ensures plan_after { (J : Job) → IsJobOf J tariff.now plan.old
         → Becomes plan.old plan.new (two_opt_all J (routes plan.old) (pairs stops.now)) }
-    ensures sizes { (plan.new.v ≡ plan.old.v) × (plan.new.n ≡ plan.old.n) }
+    ensures sizes { SizesKept plan.old plan.new }
 {
     for i in 0..stops.len() {
         pairs_of(tariff, plan, stops, i);
@@ -73,7 +73,7 @@ pub fn pass(tariff: &Tariff, plan: &mut Plan, near: &[u32])
     requires { Once near.now }
     ensures plan_after { (J : Job) → IsJobOf J tariff.now plan.old → (x : ℕ) → near.now ≡ neighbours J x
         → Becomes plan.old plan.new (two_opt_pass J (routes plan.old) x) }
-    ensures sizes { (plan.new.v ≡ plan.old.v) × (plan.new.n ≡ plan.old.n) }
+    ensures sizes { SizesKept plan.old plan.new }
     ensures plan_after_2 { (J : Job) → IsJobOf J tariff.now plan.old
         → Becomes plan.old plan.new (two_opt_all J (routes plan.old) (pairs (take 10 near.now))) }
 {

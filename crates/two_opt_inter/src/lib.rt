@@ -5,7 +5,7 @@ ghost use Rattle.std.specs.Prelude.{◌≡◌, ◌++◌, ◌+◌, ◌≤◌, len
 ghost use Rattle.model.specs.Job.{Job};
 ghost use Rattle.model.specs.Plan.{route_of};
 ghost use Rattle.model.specs.TwoOpt.{turned, set_route, inter};
-ghost use Rattle.solution.specs.Held.{routes, Becomes};
+ghost use Rattle.solution.specs.Held.{routes, Becomes, SizesKept};
 ghost use Rattle.delivery.specs.Held.{IsJobOf};
 ghost use Rattle.pasting.specs.Put.{put};
 ghost use Rattle.two_opt_candidates.specs.Pairs.{pair_of, plan_at, least_pair};
@@ -110,7 +110,7 @@ pub fn inter(tariff: &Tariff, plan: &mut Plan, first: Visit, second: Visit)
     requires { OnTwoRoutes plan.old first.vehicle first.stop second.vehicle second.stop }
     ensures plan_after { (J : Job) → IsJobOf J tariff.now plan.old
         → Becomes plan.old plan.new (inter J (routes plan.old) first.vehicle first.stop second.vehicle second.stop) }
-    ensures sizes { (plan.new.v ≡ plan.old.v) × (plan.new.n ≡ plan.old.n) }
+    ensures sizes { SizesKept plan.old plan.new }
 {
     let best = least_of_plan(tariff, plan, first, second);
     let code = best.code;

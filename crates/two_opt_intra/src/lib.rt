@@ -4,7 +4,7 @@
 ghost use Rattle.std.specs.Prelude.{◌≡◌, ◌<◌, length};
 ghost use Rattle.model.specs.Job.{Job};
 ghost use Rattle.model.specs.TwoOpt.{intra};
-ghost use Rattle.solution.specs.Held.{routes, Becomes};
+ghost use Rattle.solution.specs.Held.{routes, Becomes, SizesKept};
 ghost use Rattle.delivery.specs.Held.{IsJobOf};
 ghost use Rattle.two_opt_intra.specs.Reordered.{reordered, Weighable, Weighs, OneRoute};
 
@@ -49,7 +49,7 @@ fn reorder(tariff: &Tariff, vehicle: usize, route: &mut [u32], i: usize, j: usiz
 pub fn intra(tariff: &Tariff, plan: &mut Plan, k: usize, s: u32, t: u32)
     requires { OneRoute plan.old k s t }
     ensures plan_after { (J : Job) → IsJobOf J tariff.now plan.old → Becomes plan.old plan.new (intra J (routes plan.old) k s t) }
-    ensures sizes { (plan.new.v ≡ plan.old.v) × (plan.new.n ≡ plan.old.n) }
+    ensures sizes { SizesKept plan.old plan.new }
 {
     let v = plan.v;
     let n = plan.n;

@@ -1,4 +1,4 @@
-// The two new forms of a route that two-opt tries for a pair of stops on it.
+// The two new forms of a route that two-opt tries for a pair of stops on it. They turn other parts of it, so they are two functions.
 #![tactic(auto)]
 
 ghost use Rattle.std.specs.Prelude.{◌≡◌, ◌≤◌, ◌<◌, length};

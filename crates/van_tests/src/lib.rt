@@ -47,21 +47,11 @@ fn on_others_van(plan: &Plan, vans: u32, stop: u32) -> bool
     }
 }
 
-// Of a move by a caller whose set names no van from v on. One test after another, as each may be made only where those before it do not apply:
-// as one disjunction of four calls it is no plainer.
+// Of a move by a caller whose set names no van from v on.
 pub fn bad_move(plan: &Plan, vans: u32, m: Move) -> bool
     requires { bad_vans plan.now.v vans ≡ false }
     ensures { result ≡ bad_move vans m (routes plan.now) }
 {
     let k = m.van as usize;
-    if plan.v <= k {
-        return true;
-    }
-    if !holds(vans, k) {
-        return true;
-    }
-    if on_others_van(plan, vans, m.stop) {
-        return true;
-    }
-    beyond_end(plan, m)
+    plan.v <= k || !holds(vans, k) || on_others_van(plan, vans, m.stop) || beyond_end(plan, m)
 }

@@ -12,7 +12,7 @@ pub loop-i-init : goal.loop-i-init
 loop-i-init c = record { few = omega arith; long = refl; cells = λ p k h. absurd (omega arith) }
 
 pub location_of-from-requires : goal.location_of-from-requires
-location_of-from-requires c = (c.requires.vehicles, c.requires.stops, omega arith)
+location_of-from-requires c = (c.requires.vehicles, c.requires.stops)
 
 pub fill_row-requires : goal.fill_row-requires
 fill_row-requires c = (c.requires.table, c.loop-i.invariant.long, omega arith)
@@ -22,7 +22,7 @@ loop-i-preserved c =
     let N = c.args.network.now in
     rows_more N.vehicles.now N.stops.now N.locations N.distances.now c.requires c.loop-i.i c.location_of-from.result
     c.place_ends.new.ends c.loop-i.table c.fill_row.new.legs c.loop-i.invariant c.loop-i-test.true
-    (λ p. c.location_of-from.ensures.from p refl) c.place_ends.ensures c.fill_row.ensures
+    c.location_of-from.ensures c.place_ends.ensures c.fill_row.ensures
 
 -- the table that is left
 made : (c : After-loop-i) → TableOf c.args.network.now c.loop-i.table

@@ -1,46 +1,53 @@
 use Prim.Native.Nat.{◌+◌, ◌-◌, ◌*◌, ◌/◌, ◌<◌}
 use mathlib.Core.Path.{sym, ap, ◌∙◌}
 use native.Mathlib.Omega.{arith}
-use lib.ListN.{length, get_or}
+use lib.ListN.{length}
 use Rattle.model.specs.Job.{priced}
-use Rattle.distance.proofs.Laws.{leaves-stop, leaves-vehicle, reaches-stop, reaches-vehicle}
+use Rattle.distance.specs.Sides.{leads}
+use Rattle.distance.specs.declared.Side.{Side}
+use Rattle.distance.proofs.Laws.{leaves-vehicle, reaches-vehicle}
 use Rattle.distance.proofs.Table.{stop-place, vehicle-inside}
+use Rattle.distance.proofs.Sides.{of-stop}
 use Rattle.distance.proofs.location_at.Goals as goal
 use Rattle.distance.proofs.location_at.Goals.{Else-place-lt64}
 
 -- past the stops, the vehicle is there
 inside : (c : Else-place-lt64) → 2 * (c.args.place - 64) + 1 < length c.args.network.now.vehicles.now
 inside c =
-    vehicle-inside (length c.args.network.now.vehicles.now) (length c.args.network.now.stops.now) c.args.place c.if-place-lt64.false c.requires.few.0 c.requires.there
+    vehicle-inside (length c.args.network.now.vehicles.now) (length c.args.network.now.stops.now) c.args.place c.if-place-lt64.false c.requires.few c.requires.there
 
 pub bounds-network-place : goal.bounds-network-place
 bounds-network-place c =
     stop-place (length c.args.network.now.vehicles.now / 2) (length c.args.network.now.stops.now) c.args.place c.if-place-lt64.true c.requires.there
 
 pub returns-then-place-lt64 : goal.returns-then-place-lt64
-returns-then-place-lt64 c =
-    let a = c.args in
-    record {
-      from = λ p e. sym (leaves-stop (priced a.network.now p) a.place c.if-place-lt64.true);
-      to = λ p e. sym (reaches-stop (priced a.network.now p) a.place c.if-place-lt64.true);
-    }
+returns-then-place-lt64 c p =
+    sym (of-stop (priced c.args.network.now p) c.args.side c.args.place c.if-place-lt64.true)
 
-pub overflow_mul-result : goal.overflow_mul-result
-overflow_mul-result c = omega (arith, inside c)
+pub overflow_mul-start : goal.overflow_mul-start
+overflow_mul-start c = omega (arith, inside c)
 
 pub overflow_add-result : goal.overflow_add-result
-overflow_add-result c = omega (arith, inside c)
+overflow_add-result c = omega (arith, inside (goal.at.overflow_add-result c).Else-place-lt64)
 
-pub offset_bounds-network-place-2 : goal.offset_bounds-network-place-2
-offset_bounds-network-place-2 c = omega (arith, inside c)
+pub offset_bounds-network-start : goal.offset_bounds-network-start
+offset_bounds-network-start c = omega (arith, inside (goal.at.offset_bounds-network-start c).Else-place-lt64)
 
-pub bounds-network-place-2 : goal.bounds-network-place-2
-bounds-network-place-2 c = omega (arith, inside (goal.at.bounds-network-place-2 c).Else-place-lt64)
+pub bounds-network-start : goal.bounds-network-start
+bounds-network-start c = omega (arith, inside (goal.at.bounds-network-start c).Else-place-lt64)
 
-pub returns : goal.returns
-returns c =
-    let N = c.args.network.now in
-    record {
-      from = λ p e. ap (λ i. get_or N.vehicles.now i 0) (omega arith) ∙ sym (leaves-vehicle (priced N p) c.args.place c.if-place-lt64.false);
-      to = λ p e. ap (λ i. get_or N.vehicles.now i 0) (omega arith) ∙ sym (reaches-vehicle (priced N p) c.args.place c.if-place-lt64.false);
-    }
+pub offset_bounds-network-start-in-End : goal.offset_bounds-network-start-in-End
+offset_bounds-network-start-in-End c = omega (arith, inside (goal.at.offset_bounds-network-start-in-End c).Else-place-lt64)
+
+pub bounds-network-start-in-End : goal.bounds-network-start-in-End
+bounds-network-start-in-End c = inside (goal.at.bounds-network-start-in-End c).Else-place-lt64
+
+pub returns-in-Start : goal.returns-in-Start
+returns-in-Start c p =
+    let J = priced c.args.network.now p in
+    sym (leaves-vehicle J c.args.place c.if-place-lt64.false) ∙ ap (λ (s : Side). leads J s c.args.place) (sym c.in-Start.is)
+
+pub returns-in-End : goal.returns-in-End
+returns-in-End c p =
+    let J = priced c.args.network.now p in
+    sym (reaches-vehicle J c.args.place c.if-place-lt64.false) ∙ ap (λ (s : Side). leads J s c.args.place) (sym c.in-End.is)

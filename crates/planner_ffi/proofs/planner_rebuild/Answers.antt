@@ -4,4 +4,4 @@ use Rattle.planner_ffi.proofs.planner_rebuild.Goals as goal
 pub returns : goal.returns
 returns c =
     let h = c.hand_rebuilt.ensures in
-    hands-rebuilt _ _ _ c.rebuild-answer.ensures _ _ _ h.number h.completed_after
+    rw (← c.job_of-job.ensures) (hands-rebuilt _ _ _ c.rebuild-answer.ensures _ _ _ h.number h.completed_after)

@@ -4,4 +4,4 @@ use Rattle.planner_ffi.proofs.planner_roadworks.Goals as goal
 pub returns : goal.returns
 returns c =
     let h = c.hand.ensures in
-    hands-rise _ _ c.roadworks-answer.ensures _ _ _ h.number h.value
+    rw (← c.job_of-job.ensures) (hands-rise _ _ c.roadworks-answer.ensures _ _ _ h.number h.value)

@@ -3,4 +3,4 @@ use Rattle.planner_ffi.proofs.planner_solve.Goals as goal
 
 pub returns : goal.returns
 returns c =
-    hands-run _ _ _ c.solve-answer.ensures _ _ _ c.hand_totals.ensures.number c.hand_totals.ensures.settled_after
+    rw (← c.job_of-job.ensures) (hands-run _ _ _ c.solve-answer.ensures _ _ _ c.hand_totals.ensures.number c.hand_totals.ensures.settled_after)

@@ -1,7 +1,7 @@
 use Prim.Native.Nat.{ℕ, ◌-◌}
 use mathlib.Core.Path.{refl, ap, ◌∙◌}
 use lib.ListN.{get_or}
-use Rattle.rebuild_tables.specs.declared.Frame.{Frame}
+use Rattle.rebuild_tables.specs.declared.frame.Frame.{Frame}
 use Rattle.rebuild_tables.specs.Frame.{Framing}
 use Rattle.rebuild_arrange.proofs.Arranging.{addable, visitable, visited-arranged}
 use Rattle.rebuild_arrange.proofs.arrange_gaps.Goals as goal
@@ -32,10 +32,6 @@ visit-found-requires c =
     visitable a.tariff.now a.plan.now a.regions.now c.requires.arrangeable.0 (frame (goal.at.visit-found-requires c).After-fill-own) (framing (goal.at.visit-found-requires c).After-fill-own) c.table_ways-ways.result c.table_ways-ways.ensures
     c.new-kept.result (c.new-kept.ensures.word ∙ c.fill-own.ensures.value) (c.new-kept.ensures.placed ∙ c.placed.ensures) c.new-kept.ensures.uncalled a.cost c.requires.cost_value c.others_of-others.result c.gaps-p.result c.drained.result
     c.gaps-p.ensures c.drained.ensures c.others_of-others.ensures
-
-pub plan_of-requires : goal.plan_of-requires
-plan_of-requires c =
-    ((framing (goal.at.plan_of-requires c).After-fill-own).framed, c.visit-found.ensures.held.word)
 
 pub returns : goal.returns
 returns c =

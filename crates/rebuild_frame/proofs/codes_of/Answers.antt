@@ -9,17 +9,17 @@ use Rattle.rebuild_frame.proofs.codes_of.Goals.{Then-digit-ne0, then-digit-ge8, 
 small : (c : Then-digit-ne0) → get_or c.args.frame.now.listed (digit_at c.args.word c.loop-i.i) 0 < 64
 small c =
     let l = c.loop-i in
-    read_known c.args.frame.now c.requires.0 c.args.word c.requires.1 l.i l.m l.gap l.codes l.invariant
+    read_known c.args.frame.now c.args.word c.requires.0 l.i l.m l.gap l.codes l.invariant
     c.loop-i-test.true c.if-digit-ge8.false c.if-digit-ne0.true
 
 room : (c : Then-digit-ne0) → c.loop-i.m < 7
 room c =
     let l = c.loop-i in
-    read-room c.args.frame.now c.requires.0 c.args.word c.requires.1 l.i l.m l.gap l.codes l.invariant
+    read-room c.args.frame.now c.args.word c.requires.0 l.i l.m l.gap l.codes l.invariant
     c.loop-i-test.true c.if-digit-ge8.false c.if-digit-ne0.true
 
 pub loop-i-init : goal.loop-i-init
-loop-i-init c = read_none c.args.frame.now c.requires.0 c.args.word c.requires.1 c.args.codes.now c.requires.2
+loop-i-init c = read_none c.args.frame.now c.args.word c.requires.0 c.args.codes.now c.requires.1
 
 pub overflow_sub-gap : goal.overflow_sub-gap
 overflow_sub-gap c = c.if-digit-ge8.true
@@ -49,21 +49,21 @@ loop-i-preserved c =
     elim c.if-digit-ge8.branch [
       | then-digit-ge8 j ↦
           read_same f w (l.i + 1) l.m (d - 8) l.codes
-          (read-gap f c.requires.0 w c.requires.1 l.i l.m l.gap l.codes l.invariant h j.if-digit-ge8.true) _ _ _
+          (read-gap f w c.requires.0 l.i l.m l.gap l.codes l.invariant h j.if-digit-ge8.true) _ _ _
           j.codes-is j.m-is j.gap-is
       | else-digit-ge8+then-digit-ne0 j ↦
           read_same f w (l.i + 1) (l.m + 1) l.gap (set l.codes l.m (code l.gap (get_or f.listed d 0)))
-          (read-stop f c.requires.0 w c.requires.1 l.i l.m l.gap l.codes l.invariant h j.if-digit-ge8.false j.if-digit-ne0.true) _ _ _
+          (read-stop f w c.requires.0 l.i l.m l.gap l.codes l.invariant h j.if-digit-ge8.false j.if-digit-ne0.true) _ _ _
           j.codes-is j.m-is j.gap-is
       | else-digit-ge8+else-digit-ne0 j ↦
           read_same f w (l.i + 1) l.m l.gap l.codes
-          (read-zero f c.requires.0 w c.requires.1 l.i l.m l.gap l.codes l.invariant h j.if-digit-ne0.false) _ _ _
+          (read-zero f w c.requires.0 l.i l.m l.gap l.codes l.invariant h j.if-digit-ne0.false) _ _ _
           j.codes-is j.m-is j.gap-is
     ]
 
 pub returns : goal.returns
 returns c =
     let l = c.loop-i in (
-      read_all c.args.frame.now c.requires.0 c.args.word c.requires.1 l.i l.m l.gap l.codes l.invariant (omega arith),
+      read_all c.args.frame.now c.args.word c.requires.0 l.i l.m l.gap l.codes l.invariant (omega arith),
       omega (arith, l.invariant.few, l.invariant.long),
     )

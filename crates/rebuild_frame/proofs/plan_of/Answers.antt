@@ -6,7 +6,7 @@ use Rattle.rebuild_frame.proofs.plan_of.Goals as goal
 pub invariant_of-result : goal.invariant_of-result
 invariant_of-result c =
     let f = c.args.frame.now in
-    record { sizes = f.plan.sizes; lent = rw c.write_form.ensures (form-lent f c.requires.0 c.args.word c.requires.1) }
+    record { sizes = f.plan.sizes; lent = rw c.write_form.ensures (form-lent f c.args.word c.requires) }
 
 pub returns : goal.returns
 returns c = record { vehicles = refl; stops = refl; form = c.write_form.ensures }

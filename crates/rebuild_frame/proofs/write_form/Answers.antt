@@ -11,12 +11,12 @@ compose-requires c =
     let f = c.args.frame.now in
     let p = c.gaps-p in
     record {
-      gapped = parts-gapped f c.requires.0 c.args.word c.requires.1 p.result p.ensures;
-      to_len = (length-take-le _ _ (omega (arith, f.plan.sizes.vehicles, f.plan.sizes.stops)), parts-few f c.requires.0 c.args.word c.requires.1 p.result p.ensures (take k.result k.new.codes) k.ensures.0);
+      gapped = parts-gapped f c.args.word c.requires p.result p.ensures;
+      to_len = (length-take-le _ _ (omega (arith, f.plan.sizes.vehicles, f.plan.sizes.stops)), parts-few f c.args.word c.requires p.result p.ensures (take k.result k.new.codes) k.ensures.0);
     }
 
 pub returns : goal.returns
 returns c =
     let k = c.codes_of-m in
     let p = c.gaps-p in
-    parts-form c.args.frame.now c.requires.0 c.args.word c.requires.1 p.result p.ensures (take k.result k.new.codes) k.ensures.0 _ _ c.compose.ensures
+    parts-form c.args.frame.now c.args.word c.requires p.result p.ensures (take k.result k.new.codes) k.ensures.0 _ _ c.compose.ensures

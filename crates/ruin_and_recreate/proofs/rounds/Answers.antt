@@ -13,7 +13,7 @@ round-p-requires c =
     let a = c.args in
     let i = c.loop-done.invariant in
     record {
-      course = courses a.tariff.now a.settings.now a.plan.now _ _ _ _ _ c.requires.course i.0;
+      course = courses a.tariff.now a.settings.now a.plan.now _ _ _ c.requires.course i.0;
       standing = (i.0.stands, omega (arith, i.1, c.loop-done-test.true));
     }
 

@@ -6,7 +6,7 @@ use Rattle.run_round.proofs.round.Goals as goal
 
 pub pass-requires : goal.pass-requires
 pass-requires c =
-    let a = c.args in row-lent a.tariff.now a.plan.now.n a.near.now a.draws.now a.smoothing c.requires.course c.among-row.result c.among-row.ensures.1
+    let a = c.args in row-lent a.tariff.now a.plan.now.n a.near.now a.settings.now c.requires.course c.among-row.result c.among-row.ensures.1
 
 pub pick-k-requires : goal.pick-k-requires
 pick-k-requires c =
@@ -41,6 +41,6 @@ returns c =
     let k = c.pick-k in
     let x = c.among-row in
     let a = c.args in
-    rounded a.tariff.now a.near.now a.draws.now a.smoothing a.plan.now c.requires.course
+    rounded a.tariff.now a.near.now a.settings.now a.plan.now c.requires.course
     _ _ _ _ _ _ x.result _ _ a.p _ c.requires.standing.0 x.ensures.0 x.ensures.1 (part-row x.result a.plan.now.n a.near.now) c.pass.ensures.plan_after c.pass.ensures.sizes
     k.ensures (part-picks k.result k.new.picks) c.rebuild-walk.ensures c.counted.ensures

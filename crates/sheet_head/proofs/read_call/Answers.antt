@@ -10,4 +10,4 @@ returns-then-not-check_line c = let k = c.check_line in
 
 pub returns : goal.returns
 returns c = let k = c.check_line in
-    call-read _ _ _ c.number_at.ensures (said k.result (ap not c.if-not-check_line.false) k.ensures) c.call_of.result c.call_of.ensures
+    rw c.ok.ensures.value (call-read _ _ _ c.number_at.ensures (said k.result (ap not c.if-not-check_line.false) k.ensures) _ c.try_from.ensures)
