@@ -31,14 +31,18 @@ impl Legs {
     }
 }
 
-// What a job's plans are weighed by. It is kept out of its callers' frames, so that none of them has room for the leg table twice.
-#[inline(never)]
+// What a job's plans are weighed by. Its table is filled where the caller keeps it, as that of `legs_of` is.
+#[inline(always)]
 pub fn tariff_of(job: &Job) -> Tariff
     requires { Limited job.now.network × Affordable job.now.prices }
     ensures { TableOf job.now.network result.legs.table × (result.prices ≡ job.now.prices) }
 {
-    Tariff {
-        legs: crate::legs_of(&job.network),
+    let mut tariff = Tariff {
+        legs: Legs {
+            table: [0u32; 6400],
+        },
         prices: job.prices,
-    }
+    };
+    crate::fill_table(&job.network, &mut tariff.legs);
+    tariff
 }

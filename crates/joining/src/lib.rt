@@ -12,7 +12,7 @@ ghost use Rattle.solution.specs.Held.{routes};
 ghost use Rattle.joining.specs.Places.{leaving_out};
 ghost use Rattle.pasting.specs.Put.{area_of};
 
-pub use changes::{append, blank, insert, remove, replace};
+pub use changes::{append, appended, blank, insert, remove, replace};
 use solution::Plan;
 
 // Writes the plan of v empty routes.

@@ -63,8 +63,7 @@ fn reach(tariff: &Tariff, left: u64, plan: &Plan, bound: f64, best: &mut Plan, l
         rest = stop_set::without(rest, stop);
         let after = stop_set::without(left, stop);
         for k in 0..plan.v {
-            let mut next = *plan;
-            joining::append(&mut next, k, stop);
+            let next = joining::appended(plan, k, stop);
             found = reach(tariff, after, &next, cost, best, found);
         }
     }

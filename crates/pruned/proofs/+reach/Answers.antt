@@ -75,9 +75,9 @@ loop-rest-preserved t c =
     stops-more c.loop-rest.invariant c.lowest-stop.result c.lowest-stop.ensures c.without-rest.result c.without-rest.ensures
     l.best l.found l.invariant.stands (on-all l.invariant c.loop-k-test.false)
 
-pub append-requires : goal.append-requires
-append-requires t c =
-    let i = is-left t (goal.at.append-requires t c).After-without-after in
+pub appended-next-requires : goal.appended-next-requires
+appended-next-requires t c =
+    let i = is-left t (goal.at.appended-next-requires t c).After-without-after in
     record { place = c.loop-k-test.true; stop = (known c.requires c.lowest-stop.result i, off c.requires c.lowest-stop.result i) }
 
 pub reach-found-requires : goal.reach-found-requires
@@ -87,7 +87,7 @@ reach-found-requires t c =
     let i = is-left t (goal.at.reach-found-requires t c).After-without-after in
     let w = weighs t (goal.at.reach-found-requires t c).After-missed_cost in (
       omega (arith, fewer c.requires stop i c.without-after.result c.without-after.ensures),
-      onward c.requires stop i c.without-after.result c.without-after.ensures l.k c.loop-k-test.true c.append.new.plan c.append.ensures
+      onward c.requires stop i c.without-after.result c.without-after.ensures l.k c.loop-k-test.true c.appended-next.result c.appended-next.ensures
           _ (cost-whole c.args.tariff.now c.args.plan.now _ w) l.best l.found l.invariant.stands,
     )
 
@@ -99,9 +99,9 @@ loop-k-preserved t c =
     let i = is-left t (goal.at.loop-k-preserved t c).After-without-after in
     let w = weighs t (goal.at.loop-k-preserved t c).After-missed_cost in
     on-more l.invariant k.new.best k.result c.loop-k-test.true
-    (went-on c.requires stop i c.without-after.result c.without-after.ensures l.k c.loop-k-test.true c.append.new.plan c.append.ensures
+    (went-on c.requires stop i c.without-after.result c.without-after.ensures l.k c.loop-k-test.true c.appended-next.result c.appended-next.ensures
     _ w l.best k.new.best k.result k.ensures)
-    (went c.requires stop i c.without-after.result c.without-after.ensures l.k c.loop-k-test.true c.append.new.plan c.append.ensures
+    (went c.requires stop i c.without-after.result c.without-after.ensures l.k c.loop-k-test.true c.appended-next.result c.appended-next.ensures
     _ w l.best k.new.best k.result k.ensures)
 
 pub returns : goal.returns
