@@ -107,9 +107,10 @@ pub fn replace_two(old: &Plan, new: &mut [u32], a: usize, first: &[u32], b: usiz
 fn shift_in(part: &mut [u32], x: u32)
     ensures { part.new ≡ take (length part.old) (x ∷ part.old) }
 {
-    if let Some(last) = part.last_mut() {
-        *last = x;
-        part.rotate_right(1);
+    if !part.is_empty() {
+        let last = part.len() - 1;
+        part.copy_within(..last, 1);
+        part[0] = x;
     }
 }
 
@@ -130,8 +131,9 @@ fn shift_out(part: &mut [u32])
     requires { 1 ≤ length part.old }
     ensures { part.new ≡ drop 1 part.old ++ (unused ∷ []) }
 {
-    part[0] = 4294967295;
-    part.rotate_left(1);
+    let last = part.len() - 1;
+    part.copy_within(1.., 0);
+    part[last] = 4294967295;
 }
 
 // Takes the stop at place i of route k out, in the numbers of a lent form. It and put_in turn the other way and count the other way.
