@@ -90,13 +90,15 @@ fn place_ends(network: &Network, ends: &mut [u32; 80])
     }
 }
 
-// Fills a row of the leg table, which begins at `first`: the metres from a location to each of the ends.
+// Fills a row of the leg table, which begins at `first`: the metres from a location to each of the ends. The network is copied, so that its
+// numbers stay in registers while the table is written.
 fn fill_row(network: &Network, from: u32, ends: &[u32; 80], legs: &mut Legs, first: usize)
     requires { Limited network.now × (first + 80 ≤ 6400) }
     ensures { Row network.now.distances.now network.now.locations from ends.now first 80 legs.old.table legs.new.table }
 {
+    let network = *network;
     for i in 0..80 {
-        let metres = metres(network, from, ends[i]);
+        let metres = metres(&network, from, ends[i]);
         legs.table[first + i] = metres;
     }
 }

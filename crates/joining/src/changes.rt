@@ -42,20 +42,6 @@ pub fn append(plan: &mut Plan, k: usize, stop: u32)
     insert(plan, k, end, stop);
 }
 
-// The plan with a stop that is on no route put in at the end of route k. The numbers are copied once: a search makes such a plan for each step.
-pub fn appended(plan: &Plan, k: usize, stop: u32) -> Plan
-    requires place { k < plan.now.v }
-    requires stop { (stop < plan.now.n) × (is_placed stop (routes plan.now) ≡ false) }
-    ensures { Becomes plan.now result (with_last k stop (routes plan.now)) }
-{
-    let v = plan.v;
-    let n = plan.n;
-    let size = plan.route(k).len();
-    let mut numbers = plan.numbers;
-    crate::put_in(&mut numbers[..v + n], v, n, k, size, stop);
-    Plan { v, n, numbers }
-}
-
 // Takes a stop out of the place where it is.
 pub fn remove(plan: &mut Plan, stop: u32, place: Place)
     requires { place_of stop (routes plan.old) ≡ Some place }

@@ -3,16 +3,16 @@
 
 mod changes;
 
-ghost use Rattle.std.specs.Prelude.{◌≡◌, [], ◌∷◌, ◌++◌, ◌+◌, ◌≤◌, ◌<◌, length, take, drop, replicate};
-ghost use Rattle.model.specs.Lists.{concat, change};
-ghost use Rattle.model.specs.Plan.{unused, route_of, encode, decode, placed, Lent, Sizes};
+ghost use Rattle.std.specs.Prelude.{◌≡◌, [], ◌∷◌, ◌++◌, ◌+◌, ◌≤◌, ◌<◌, false, length, take, drop, replicate};
+ghost use Rattle.model.specs.Lists.{concat, change, with_last};
+ghost use Rattle.model.specs.Plan.{unused, route_of, encode, decode, placed, is_placed, Lent, Sizes};
 ghost use Rattle.model.specs.TwoOpt.{set_route};
 ghost use Rattle.model.specs.Live.{placing};
 ghost use Rattle.solution.specs.Held.{routes};
 ghost use Rattle.joining.specs.Places.{leaving_out};
 ghost use Rattle.pasting.specs.Put.{area_of};
 
-pub use changes::{append, appended, blank, insert, remove, replace};
+pub use changes::{append, blank, insert, remove, replace};
 use solution::Plan;
 
 // Writes the plan of v empty routes.
@@ -124,6 +124,20 @@ pub fn put_in(plan: &mut [u32], v: usize, n: usize, k: usize, i: usize, stop: u3
     let at = solution::offset(plan, v, k) + i;
     shift_in(&mut plan[at..], stop);
     plan[k] = plan[k] + 1;
+}
+
+// Puts a stop that is on no route in at the end of route k, in the numbers of a plan, whose lent form is again one. So a caller changes a plan
+// that is a local of its own in place: behind a reference the numbers cannot be lent (see `insert`), and each change copies them.
+pub fn put_last(numbers: &mut [u32; 80], v: usize, n: usize, k: usize, stop: u32)
+    requires sizes { Sizes v n × Lent v n (take (v + n) numbers.old) }
+    requires place { k < v }
+    requires stop { (stop < n) × (is_placed stop (decode v (take (v + n) numbers.old)) ≡ false) }
+    ensures form { take (v + n) numbers.new ≡ encode n (with_last k stop (decode v (take (v + n) numbers.old))) }
+    ensures lent { Lent v n (take (v + n) numbers.new) }
+    ensures rest { drop (v + n) numbers.new ≡ drop (v + n) numbers.old }
+{
+    let size = numbers[k] as usize;
+    put_in(&mut numbers[..v + n], v, n, k, size, stop);
 }
 
 // Takes the first number of a list out: each other moves one place to the front, and 4294967295 stands last.

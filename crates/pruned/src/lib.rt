@@ -63,7 +63,8 @@ fn reach(tariff: &Tariff, left: u64, plan: &Plan, bound: f64, best: &mut Plan, l
         rest = stop_set::without(rest, stop);
         let after = stop_set::without(left, stop);
         for k in 0..plan.v {
-            let next = joining::appended(plan, k, stop);
+            let mut next = *plan;
+            joining::put_last(&mut next.numbers, plan.v, plan.n, k, stop);
             found = reach(tariff, after, &next, cost, best, found);
         }
     }
