@@ -68,9 +68,7 @@ fn measure(legs: &Legs, vehicle: usize, route: &[u32], from: usize, to: usize) -
     }
 }
 
-// Writes what is known of each gap of a plan. What stands after these stays. It stays a call, so that what is around it is short, and the
-// table of ways that is made with its gaps is copied less often.
-#[inline(never)]
+// Writes what is known of each gap of a plan. What stands after these stays.
 pub fn survey(legs: &Legs, plan: &Plan, regions: &[Region], gaps: &mut [Gap])
     requires { Gapped plan.now regions.now × (length gaps.old ≡ 3) }
     ensures surveyed { Surveyed legs.now plan.now regions.now gaps.new }

@@ -98,9 +98,7 @@ impl Ways {
         let all = self.step(last, GAP + q, length);
         all * (self.linear + all * self.quadratic)
     }
-    // Writes what is known of each gap: the length of its route without what fills the gap, and what the route costs so. It stays a call, as
-    // `fill_rows` does, so that what is around it is short, and a table that is filled and returned is copied less often.
-    #[inline(never)]
+    // Writes what is known of each gap: the length of its route without what fills the gap, and what the route costs so.
     fn fill_gaps(&mut self, gaps: &[Gap; 3], p: usize)
         requires { GapsFillable gaps.now p self.old }
         ensures { GapsFilled gaps.now p self.old self.new }
