@@ -14,7 +14,7 @@ ghost use Rattle.distance.specs.Sides.{leads, leads_at};
 pub use legs::Legs;
 use model::Network;
 pub use tariff::Tariff;
-pub use weighing::tariff_of;
+pub use weighing::{tariff_of, unfilled};
 
 // The metres from one location to another. No other function reads the job's own table. That the table is square is asked, and no fact of a
 // `Network`, which is what a host lends before anything is tested.
@@ -104,7 +104,7 @@ fn fill_row(network: &Network, from: u32, ends: &[u32; 80], legs: &mut Legs, fir
 }
 
 // Fills the leg table of a network: 80 rows of 80, place by place.
-fn fill_table(network: &Network, legs: &mut Legs)
+pub fn fill_table(network: &Network, legs: &mut Legs)
     requires { Limited network.now }
     ensures { TableOf network.now legs.new.table }
 {

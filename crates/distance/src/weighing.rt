@@ -1,10 +1,10 @@
-ghost use Rattle.std.specs.Prelude.{◌≡◌, ◌≤◌, ◌<◌};
+ghost use Rattle.std.specs.Prelude.{◌≡◌, ◌≤◌, ◌<◌, replicate};
 ghost use Rattle.model.specs.Legs.{leg_at, Affordable};
 ghost use Rattle.distance.specs.Table.{Limited, TableOf};
 ghost use Rattle.distance.specs.Ways.{Drivable, RouteLength};
 
 use crate::{Legs, Tariff};
-use model::Job;
+use model::{Job, Prices};
 
 impl Legs {
     // The metres of the leg from one place to another. No other function reads the leg table.
@@ -28,6 +28,21 @@ impl Legs {
             here = next;
         }
         sum + self.leg(here, 64 + vehicle)
+    }
+}
+
+// A tariff of some prices whose leg table is still to be filled. With `fill_table` a caller fills the table in a variable of its own, where
+// the tariff stays: one that is filled first and then returned, as by `tariff_of`, is copied where much of the caller reads it.
+#[inline(always)]
+pub fn unfilled(prices: Prices) -> Tariff
+    requires { Affordable prices }
+    ensures { (result.legs.table ≡ replicate 6400 0) × (result.prices ≡ prices) }
+{
+    Tariff {
+        legs: Legs {
+            table: [0u32; 6400],
+        },
+        prices,
     }
 }
 
