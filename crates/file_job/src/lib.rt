@@ -117,7 +117,7 @@ fn check_at(bytes: &[u8], at: usize) -> Result<Header, Refusal>
     })
 }
 
-// The task of a file that was checked, with its lists, which are filled where they stay.
+// The task of a file that was checked, with its lists. They are filled where the caller keeps the task: so no frame has room for it twice.
 #[inline(always)]
 fn load(bytes: &[u8], at: usize, header: Header) -> Task
     requires { CheckedAt bytes.now at (Ok header) }
@@ -152,8 +152,8 @@ pub fn read_at(bytes: &[u8], at: usize) -> Result<Task, Refusal>
     Ok(load(bytes, at, header))
 }
 
-// The task whose file the bytes are, with nothing before or after it. It stays a call: what it needs of the stack is free again before a run.
-#[inline(never)]
+// The task whose file the bytes are, with nothing before or after it. As `load` does, it leaves the task where the caller keeps it.
+#[inline(always)]
 pub fn read_file(bytes: &[u8]) -> Result<Task, Refusal>
     ensures { ReadWhole bytes.now result }
 {

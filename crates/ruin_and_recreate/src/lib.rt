@@ -41,7 +41,6 @@ fn rounds(
 }
 
 // The run: the start plan, and rounds up to the end rule. Without a vehicle or with fewer than two stops there are no rounds.
-#[inline(never)]
 pub fn run(tariff: &Tariff, v: usize, n: usize, settings: &Settings) -> (Plan, Totals)
     requires { Runnable v n settings.now }
     ensures sizes { (result.0.v ≡ v) × (result.0.n ≡ n) }

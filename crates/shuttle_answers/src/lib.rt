@@ -35,12 +35,10 @@ fn answer(bytes: &[u8], out: &mut [u8]) -> usize
     requires { most_for_file ≤ length out.old }
     ensures { Answers bytes.now out.old out.new result }
 {
-    // the task is lent where it was read to, and not moved out of there: it would stand in this frame twice
-    let read = file_job::read_file(bytes);
-    let Ok(task) = &read else {
+    let Ok(task) = file_job::read_file(bytes) else {
         return file_printing::print_refusal(u32::from(Refusal::File), out);
     };
-    run(task, out)
+    run(&task, out)
 }
 
 // Tells on standard error what failed, by its name where that is text.
