@@ -3,7 +3,7 @@ use mathlib.Core.Path.{◌≡◌, sym, ◌∙◌, ap, subst}
 use Prim.Native.Nat.{ℕ, ◌+◌, ◌*◌, ◌≤◌}
 use native.Mathlib.Nat.{mul-le-mul}
 use native.Mathlib.Omega.{arith}
-use mathlib.Core.List.{List}
+use mathlib.Core.List.{List, ◌++◌}
 use lib.ListN.{length, take, drop}
 use lib.Seq.{take_at}
 use Rattle.std.proofs.Common.{Ok}
@@ -13,7 +13,7 @@ use Rattle.model.specs.File.{line, lines, first_numbers, NoneOver, Stands, Accep
 use Rattle.model.proofs.Pieces.{stands-within, line-length}
 use Rattle.model.proofs.Tasks.{Placed, placed, first-fitting, draw-parts, stops_at, distances_at, count_at, draws_at}
 use Rattle.file_job.specs.declared.header.Header.{Header}
-use Rattle.file_lines.specs.Standing.{Fillable, Filled}
+use Rattle.file_lines.specs.Standing.{Fillable, Filled, over}
 use Rattle.file_job.specs.Reading.{header_of, CheckedAt}
 use Rattle.file_job.proofs.Checked.{table-bytes}
 
@@ -97,10 +97,13 @@ module _ (bytes : List ℕ) (at : ℕ) (h : Header) (T : Task) (a : AcceptedAt b
         room = omega (arith, r.draws, room);
       })
 
--- lines that hold a list are written as that list to the front
+-- lines that hold a list are written as that list to the front, and what stands behind it stays
 filled-front : (bytes : List ℕ) (at m k j : ℕ) (old new ns : List ℕ) → Filled bytes at m k old new → j ≡ m * k → length ns ≡ m * k → NoneOver ns
-    → Stands bytes at (lines m k ns) → take j new ≡ ns
-filled-front bytes at m k j old new ns f e c o s = ap (take j) (f ns c o s) ∙ take_at ns (drop (m * k) old) j (c ∙ sym e)
+    → Stands bytes at (lines m k ns) → (take j new ≡ ns) × (new ≡ over (take j new) old)
+filled-front bytes at m k j old new ns f e c o s =
+    let front : take j new ≡ ns = ap (take j) (f ns c o s) ∙ take_at ns (drop (m * k) old) j (c ∙ sym e) in
+    let laid : new ≡ over ns old = f ns c o s ∙ ap (λ (d : ℕ). ns ++ drop d old) (sym c) in
+    (front, laid ∙ ap (λ (xs : List ℕ). over xs old) (sym front))
 
 module _ (bytes : List ℕ) (at : ℕ) (h : Header) (ok : CheckedAt bytes at (Ok h)) where
   pub sizes : Sizes bytes at h
@@ -124,7 +127,13 @@ module _ (bytes : List ℕ) (at : ℕ) (h : Header) (ok : CheckedAt bytes at (Ok
       (fs : Filled bytes (stops_at at h.vehicles) h.stops 1 ss0 ss)
       (fd : Filled bytes (distances_at at h.vehicles h.stops) h.locations h.locations ds0 ds)
       (fr : Filled bytes (draws_at at h.vehicles h.stops h.locations) h.draws 1 rs0 rs) where
-    loaded : task_in h vs ss ds rs ≡ ok.0
+    -- and what stands behind them is what stood there
+    abbrev pub Laid : Type 0
+    Laid =
+        (vs ≡ over (take (h.vehicles * 2) vs) vs0) × (ss ≡ over (take h.stops ss) ss0)
+        × (ds ≡ over (take (h.locations * h.locations) ds) ds0) × (rs ≡ over (take h.draws rs) rs0)
+
+    loaded : (task_in h vs ss ds rs ≡ ok.0) × Laid
     loaded =
         let T = ok.0 in
         let e = ok.2 in
@@ -135,20 +144,25 @@ module _ (bytes : List ℕ) (at : ℕ) (h : Header) (ok : CheckedAt bytes at (Ok
         let l : h.locations ≡ T.job.locations = ap (λ x. x.locations) e in
         let d : h.draws ≡ length T.draws = ap (λ x. x.draws) e in
         let counted = count_at at (vehicle_count T.job) (stop_count T.job) T.job.locations in
-        let vehicles : take (h.vehicles * 2) vs ≡ T.job.vehicles =
+        let vehicles : (take (h.vehicles * 2) vs ≡ T.job.vehicles) × (vs ≡ over (take (h.vehicles * 2) vs) vs0) =
         filled-front bytes (at + 113) (vehicle_count T.job) 2 (h.vehicles * 2) vs0 vs T.job.vehicles
         (rw v at fv) (ap (λ k. k * 2) v) r.ends r.vehicle_numbers p.vehicles in
-        let stops : take h.stops ss ≡ T.job.stops =
+        let stops : (take h.stops ss ≡ T.job.stops) × (ss ≡ over (take h.stops ss) ss0) =
         filled-front bytes (stops_at at (vehicle_count T.job)) (stop_count T.job) 1 h.stops ss0 ss T.job.stops
         (rw (v, n) at fs) (omega (arith, n)) (omega arith) r.stop_numbers p.stops in
-        let distances : take (h.locations * h.locations) ds ≡ T.job.distances =
+        let distances : (take (h.locations * h.locations) ds ≡ T.job.distances) × (ds ≡ over (take (h.locations * h.locations) ds) ds0) =
         filled-front bytes (distances_at at (vehicle_count T.job) (stop_count T.job)) T.job.locations T.job.locations (h.locations * h.locations)
         ds0 ds T.job.distances (rw (v, n, l) at fd) (ap (λ k. k * k) l) r.square r.distance_numbers p.distances in
-        let draws : take h.draws rs ≡ T.draws =
+        let draws : (take h.draws rs ≡ T.draws) × (rs ≡ over (take h.draws rs) rs0) =
         filled-front bytes (counted + 15) (length T.draws) 1 h.draws rs0 rs T.draws
         (rw (v, n, l, d) at fr) (omega (arith, d)) (omega arith) r.draw_numbers
-        (draw-parts T.draws r.draws bytes counted p.draws).1 in
-        λ i. task_for (job_of (vehicles i) (stops i) (e i).locations (distances i) (e i).prices) (e i).smoothing (e i).limit (draws i)
+        (draw-parts T.draws r.draws bytes counted p.draws).1 in (
+          λ i. task_for (job_of (vehicles.0 i) (stops.0 i) (e i).locations (distances.0 i) (e i).prices) (e i).smoothing (e i).limit (draws.0 i),
+          (vehicles.1, stops.1, distances.1, draws.1),
+        )
+
+    pub laid : Laid
+    laid = loaded.1
 
     pub loaded-stands : AcceptedAt bytes at h.end (task_in h vs ss ds rs)
-    loaded-stands = subst (λ T. AcceptedAt bytes at h.end T) (sym loaded) ok.1
+    loaded-stands = subst (λ T. AcceptedAt bytes at h.end T) (sym loaded.0) ok.1

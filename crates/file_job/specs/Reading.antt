@@ -1,5 +1,5 @@
 -- What is read from a file: its first line, its draws, and the whole task.
-use Rattle.std.specs.Prelude.{◌≡◌, ℕ, ◌+◌, ◌*◌, ◌^◌, ◌≤◌, ◌<◌, List, [], ◌∷◌, length, take, Option, Some, None, Result, Ok, Err}
+use Rattle.std.specs.Prelude.{◌≡◌, ℕ, ◌+◌, ◌*◌, ◌^◌, ◌≤◌, ◌<◌, List, [], ◌∷◌, length, take, replicate, Option, Some, None, Result, Ok, Err}
 use Rattle.model.specs.declared.refusal.Refusal.{Refusal}
 use Rattle.model.specs.Numbers.{number_of}
 use Rattle.model.specs.Job.{job_of, vehicle_count, stop_count}
@@ -8,7 +8,7 @@ use Rattle.model.specs.File.{line, draw_lines, largest_number, NoneOver, Stands,
 use Rattle.file_job.specs.declared.FirstNumbers.{FirstNumbers}
 use Rattle.file_job.specs.declared.header.Header.{Header}
 use Rattle.file_job.specs.declared.task.Task as file
-use Rattle.file_lines.specs.Standing.{LinesAt}
+use Rattle.file_lines.specs.Standing.{LinesAt, over}
 
 -- ---- the first line
 
@@ -88,6 +88,18 @@ task_of t =
     h.smoothing
     h.limit
     (take h.draws t.draws)
+
+-- the arrays of a task are its lists, and zeros after them
+pub record ZerosAfter (t : file.Task) : Type 0 where
+  pub vehicles : t.vehicles ≡ over (take (t.header.vehicles * 2) t.vehicles) (replicate 32 0)
+  pub stops : t.stops ≡ over (take t.header.stops t.stops) (replicate 64 0)
+  pub distances : t.distances ≡ over (take (t.header.locations * t.header.locations) t.distances) (replicate 6400 0)
+  pub draws : t.draws ≡ over (take t.header.draws t.draws) (replicate 1024 0)
+
+-- so are those of a task that is answered
+abbrev pub Blank : Result file.Task Refusal → Type 0
+Blank (Ok t) = ZerosAfter t
+Blank (Err _) = Unit
 
 -- reading at a position: the one task whose file stands there, and where it ends; or refusal 14 where none does
 abbrev pub ReadAt : List ℕ → ℕ → Result file.Task Refusal → Type 0

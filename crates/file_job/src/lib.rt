@@ -8,7 +8,7 @@ mod task;
 ghost use Rattle.std.specs.Prelude.{◌≡◌, Ok};
 ghost use Rattle.model.specs.File.{AcceptedAt};
 ghost use Rattle.file_lines.specs.Standing.{Says};
-ghost use Rattle.file_job.specs.Reading.{FirstAt, TablesAt, DrawsAt, CheckedAt, task_of, ReadAt, ReadWhole};
+ghost use Rattle.file_job.specs.Reading.{FirstAt, TablesAt, DrawsAt, CheckedAt, task_of, ZerosAfter, Blank, ReadAt, ReadWhole};
 
 pub use header::Header;
 use model::{Prices, Refusal};
@@ -121,7 +121,7 @@ fn check_at(bytes: &[u8], at: usize) -> Result<Header, Refusal>
 #[inline(always)]
 fn load(bytes: &[u8], at: usize, header: Header) -> Task
     requires { CheckedAt bytes.now at (Ok header) }
-    ensures { (result.header ≡ header) × AcceptedAt bytes.now at header.end (task_of result) }
+    ensures { (result.header ≡ header) × AcceptedAt bytes.now at header.end (task_of result) × ZerosAfter result }
 {
     let v = header.vehicles;
     let n = header.stops;
@@ -146,7 +146,8 @@ fn load(bytes: &[u8], at: usize, header: Header) -> Task
 
 // The task whose file stands at a position, where others may follow it.
 pub fn read_at(bytes: &[u8], at: usize) -> Result<Task, Refusal>
-    ensures { ReadAt bytes.now at result }
+    ensures read { ReadAt bytes.now at result }
+    ensures rest { Blank result }
 {
     let header = check_at(bytes, at)?;
     Ok(load(bytes, at, header))
@@ -155,7 +156,8 @@ pub fn read_at(bytes: &[u8], at: usize) -> Result<Task, Refusal>
 // The task whose file the bytes are, with nothing before or after it. As `load` does, it leaves the task where the caller keeps it.
 #[inline(always)]
 pub fn read_file(bytes: &[u8]) -> Result<Task, Refusal>
-    ensures { ReadWhole bytes.now result }
+    ensures read { ReadWhole bytes.now result }
+    ensures rest { Blank result }
 {
     let header = check_at(bytes, 0)?;
     if header.end != bytes.len() {

@@ -3,7 +3,7 @@ ghost use Rattle.file_job.specs.Fits.{Fits};
 use crate::Header;
 
 // The task of a file. Its lists stand at the front of the arrays, as long as the header says.
-#[derive(Drop)]
+#[derive(Clone, Copy)]
 pub struct Task {
     pub header: Header,
     pub vehicles: [u32; 32],

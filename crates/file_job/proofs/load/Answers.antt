@@ -1,6 +1,6 @@
 use Rattle.std.proofs.Common.{refl, lit≤}
 use native.Mathlib.Omega.{arith}
-use Rattle.file_job.proofs.Loading.{Sizes, sizes, vehicles-there, stops-there, distances-there, draws-there, loaded-stands}
+use Rattle.file_job.proofs.Loading.{Sizes, sizes, vehicles-there, stops-there, distances-there, draws-there, loaded-stands, laid}
 use Rattle.file_job.proofs.load.Goals as goal
 use Rattle.file_job.proofs.load.Goals.{Start}
 
@@ -39,7 +39,9 @@ pub fill_lines-requires-4 : goal.fill_lines-requires-4
 fill_lines-requires-4 c = draws-there _ _ _ c.requires _ (lit≤ tt)
 
 pub returns : goal.returns
-returns c = (
-  refl,
-  loaded-stands _ _ c.args.header c.requires _ _ _ _ _ _ _ _ c.fill_lines.ensures c.fill_lines-2.ensures c.fill_lines-3.ensures c.fill_lines-4.ensures,
-)
+returns c =
+    let l = laid _ _ c.args.header c.requires _ _ _ _ _ _ _ _ c.fill_lines.ensures c.fill_lines-2.ensures c.fill_lines-3.ensures c.fill_lines-4.ensures in (
+      refl,
+      loaded-stands _ _ c.args.header c.requires _ _ _ _ _ _ _ _ c.fill_lines.ensures c.fill_lines-2.ensures c.fill_lines-3.ensures c.fill_lines-4.ensures,
+      record { vehicles = l.0; stops = l.1; distances = l.2; draws = l.3 },
+    )
