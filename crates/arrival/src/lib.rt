@@ -122,6 +122,7 @@ fn best_place(tariff: &Tariff, plan: &Plan, live: u64, stop: u32) -> Candidate
 }
 
 // Writes the plan after the arrival of a stop, and returns what it costs with the stop live.
+#[inline(never)]
 pub fn arrive(tariff: &Tariff, plan: &mut Plan, live: u64, stop: u32) -> f64
     requires { Arriving plan.old live stop }
     ensures plan_after { (J : Job) → IsJobOf J tariff.now plan.old → Becomes plan.old plan.new (arrived J live stop (routes plan.old)) }

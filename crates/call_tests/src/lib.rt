@@ -10,7 +10,8 @@ ghost use Rattle.solution.specs.Held.{numbers_of};
 use model::Prices;
 use solution::Plan;
 
-// Whether each number of a list is below a limit.
+// Whether each number of a list is below a limit. Where the walk is part of the call that asks, its numbers find no room in registers.
+#[inline(never)]
 fn all_below(list: &[u32], limit: u32) -> bool
     ensures { result ≡ all_below limit list.now }
 {

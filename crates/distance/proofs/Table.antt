@@ -7,12 +7,13 @@ use mathlib.Core.Bool.{Bool, true, false, cond, ◌&&◌, ◌||◌}
 use mathlib.Core.Logic.{◌⊎◌, inl, inr, ⊎_elim}
 use mathlib.Core.List.{List}
 use lib.Dec.{leb, ltb}
-use lib.ListN.{length, get_or, set, length-set, get_or-eq_default}
+use lib.ListN.{length, get_or, set, length-set, get_or-eq_default, replicate, length-replicate}
 use lib.Seq.{get_or-set_same, get_or-set_other}
 use borrow.Author.Count.{below_more}
 use borrow.Author.Tests.{lt-ltb, le-ltb, le-leb, ltb-true, leb-true}
+use Rattle.std.proofs.lemmas.List.{get_or-replicate}
 use Rattle.model.specs.Job.{Job, job_of, vehicle_count, stop_count, entry, distance}
-use Rattle.model.specs.Legs.{leaves, reaches, leg_at, IsPlace}
+use Rattle.model.specs.Legs.{leaves, reaches, leg_at, IsPlace, LegTable}
 use Rattle.model.specs.declared.Prices.{Prices}
 use Rattle.distance.specs.Table.{InLimits, is_place, cell, start_at, end_at, between, EndsOf, Row, LegsOf}
 use Rattle.distance.proofs.Laws.{leaves-stop, reaches-stop, leaves-vehicle, reaches-vehicle}
@@ -94,6 +95,35 @@ module _ (ds : List ℕ) (l a b : ℕ) where
   pub between-no-to : a < l → l ≤ b → between ds l a b ≡ 0
   unfolding between
   between-no-to h k = ap₂ (λ (s t : Bool). cond (s && t) (entry ds l a b) 0) (lt-ltb a l h) (le-ltb b l k)
+
+  pub between-small : ((i : ℕ) → get_or ds i 0 ≤ 200000) → between ds l a b ≤ 200000
+  unfolding between entry
+  between-small h = go (ltb a l && ltb b l)
+    where
+      go : (t : Bool) → cond t (entry ds l a b) 0 ≤ 200000
+      go true = h (a * l + b)
+      go false = omega arith
+
+-- a table of zeros is one
+pub legs-blank : LegTable (replicate 6400 0)
+legs-blank = record { long = length-replicate {A = ℕ} 6400 0; small = λ i. go i (dec_lt i 6400) }
+  where
+    go : (i : ℕ) → Dec (i < 6400) → get_or (replicate 6400 0) i 0 ≤ 200000
+    go i (yes h) = rw (get_or-replicate {A = ℕ} 6400 i 0 0 h) (omega arith)
+    go i (no h) = rw (get_or-eq_default {A = ℕ} (replicate 6400 0) 0 {n = i} (omega (arith, length-replicate {A = ℕ} 6400 0))) (omega arith)
+
+-- a leg table stays one where a cell of it is written
+pub legs-set : (xs : List ℕ) (i x : ℕ) → LegTable xs → x ≤ 200000 → LegTable (set xs i x)
+legs-set xs i x L h = record { long = length-set xs i x ∙ L.long; small = λ j. go j (dec_lt i (length xs)) (lt-or-le j i) (lt-or-le i j) }
+  where
+    go : (j : ℕ) → Dec (i < length xs) → (j < i) ⊎ (i ≤ j) → (i < j) ⊎ (j ≤ i) → get_or (set xs i x) j 0 ≤ 200000
+    go j d (inl b) e = rw (get_or-set_other xs i j x 0 (λ q. omega arith)) (L.small j)
+    go j d (inr b) (inl c) = rw (get_or-set_other xs i j x 0 (λ q. omega arith)) (L.small j)
+    go j (yes k) (inr b) (inr c) = same j (omega arith)
+      where
+        same : (j : ℕ) → j ≡ i → get_or (set xs i x) j 0 ≤ 200000
+        same j e = rw (e, get_or-set_same xs i x 0 k) h
+    go j (no k) (inr b) (inr c) = rw (get_or-eq_default (set xs i x) 0 {n = j} (omega (arith, length-set xs i x))) (omega arith)
 
 -- ---- a row that is filled from the front
 

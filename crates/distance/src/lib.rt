@@ -14,7 +14,7 @@ ghost use Rattle.distance.specs.Sides.{leads, leads_at};
 pub use legs::Legs;
 use model::Network;
 pub use tariff::Tariff;
-pub use weighing::tariff_of;
+pub use weighing::{tariff_of, unfilled};
 
 // The metres from one location to another. No other function reads the job's own table. That the table is square is asked, and no fact of a
 // `Network`, which is what a host lends before anything is tested.
@@ -90,27 +90,41 @@ fn place_ends(network: &Network, ends: &mut [u32; 80])
     }
 }
 
-// Fills a row of the leg table, which begins at `first`: the metres from a location to each of the ends.
-fn fill_row(network: &Network, from: u32, ends: &[u32; 80], legs: &mut [u32; 6400], first: usize)
-    requires { Square network.now.locations network.now.distances.now × (length legs.old ≡ 6400) × (first + 80 ≤ 6400) }
-    ensures { Row network.now.distances.now network.now.locations from ends.now first 80 legs.old legs.new }
+// Fills a row of the leg table, which begins at `first`: the metres from a location to each of the ends. The network is copied, so that its
+// numbers stay in registers while the table is written.
+fn fill_row(network: &Network, from: u32, ends: &[u32; 80], legs: &mut Legs, first: usize)
+    requires { Limited network.now × (first + 80 ≤ 6400) }
+    ensures { Row network.now.distances.now network.now.locations from ends.now first 80 legs.old.table legs.new.table }
 {
+    let network = *network;
     for i in 0..80 {
-        legs[first + i] = metres(network, from, ends[i]);
+        let metres = metres(&network, from, ends[i]);
+        legs.table[first + i] = metres;
     }
 }
 
-// The leg table of a network: 80 rows of 80, place by place.
+// Fills the leg table of a network: 80 rows of 80, place by place.
+pub fn fill_table(network: &Network, legs: &mut Legs)
+    requires { Limited network.now }
+    ensures { TableOf network.now legs.new.table }
+{
+    let mut ends = [0u32; 80];
+    place_ends(network, &mut ends);
+    for i in 0..80 {
+        let from = location_of(network, i, Side::Start);
+        fill_row(network, from, &ends, legs, 80 * i);
+    }
+}
+
+// The leg table of a network. It is filled where the caller keeps it: so no frame has room for it twice, and it is not copied.
+#[inline(always)]
 pub fn legs_of(network: &Network) -> Legs
     requires { Limited network.now }
     ensures { TableOf network.now result.table }
 {
-    let mut ends = [0u32; 80];
-    place_ends(network, &mut ends);
-    let mut table = [0u32; 6400];
-    for i in 0..80 {
-        let from = location_of(network, i, Side::Start);
-        fill_row(network, from, &ends, &mut table, 80 * i);
-    }
-    Legs { table }
+    let mut legs = Legs {
+        table: [0u32; 6400],
+    };
+    fill_table(network, &mut legs);
+    legs
 }

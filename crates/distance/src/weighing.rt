@@ -1,10 +1,10 @@
-ghost use Rattle.std.specs.Prelude.{◌≡◌, ◌≤◌, ◌<◌};
+ghost use Rattle.std.specs.Prelude.{◌≡◌, ◌≤◌, ◌<◌, replicate};
 ghost use Rattle.model.specs.Legs.{leg_at, Affordable};
 ghost use Rattle.distance.specs.Table.{Limited, TableOf};
 ghost use Rattle.distance.specs.Ways.{Drivable, RouteLength};
 
 use crate::{Legs, Tariff};
-use model::Job;
+use model::{Job, Prices};
 
 impl Legs {
     // The metres of the leg from one place to another. No other function reads the leg table.
@@ -31,14 +31,33 @@ impl Legs {
     }
 }
 
-// What a job's plans are weighed by. It is kept out of its callers' frames, so that none of them has room for the leg table twice.
-#[inline(never)]
+// A tariff of some prices whose leg table is still to be filled. With `fill_table` a caller fills the table in a variable of its own, where
+// the tariff stays: one that is filled first and then returned, as by `tariff_of`, is copied where much of the caller reads it.
+#[inline(always)]
+pub fn unfilled(prices: Prices) -> Tariff
+    requires { Affordable prices }
+    ensures { (result.legs.table ≡ replicate 6400 0) × (result.prices ≡ prices) }
+{
+    Tariff {
+        legs: Legs {
+            table: [0u32; 6400],
+        },
+        prices,
+    }
+}
+
+// What a job's plans are weighed by. Its table is filled where the caller keeps it, as that of `legs_of` is.
+#[inline(always)]
 pub fn tariff_of(job: &Job) -> Tariff
     requires { Limited job.now.network × Affordable job.now.prices }
     ensures { TableOf job.now.network result.legs.table × (result.prices ≡ job.now.prices) }
 {
-    Tariff {
-        legs: crate::legs_of(&job.network),
+    let mut tariff = Tariff {
+        legs: Legs {
+            table: [0u32; 6400],
+        },
         prices: job.prices,
-    }
+    };
+    crate::fill_table(&job.network, &mut tariff.legs);
+    tariff
 }

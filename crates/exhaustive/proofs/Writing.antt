@@ -1,11 +1,12 @@
 -- The full plan is written stop by stop: those below i stand on the first route.
 use Prim.Native.Nat.{ℕ, zero, suc, ◌+◌, ◌≤◌}
 use native.Mathlib.Omega.{arith}
+use native.Mathlib.Nat.{le_of_suc-le-suc}
 use mathlib.Core.Path.{◌≡◌, refl, sym, ap, ◌∙◌}
 use mathlib.Core.Logic.{inr}
 use mathlib.Core.Bool.{false}
 use mathlib.Core.List.{[], ◌∷◌, ◌++◌}
-use lib.ListN.{replicate}
+use lib.ListN.{take, replicate}
 use Rattle.model.specs.Lists.{concat, with_last, count, up_from}
 use Rattle.model.specs.Plan.{is_placed, encode}
 use Rattle.model.proofs.Lists.{up_from-append, count-up_from-out, count-absent}
@@ -14,6 +15,12 @@ use Rattle.solution.specs.Held.{numbers_of, routes, Holds, Becomes}
 use Rattle.solution.proofs.Holding.{holds-routes}
 use Rattle.exhaustive.specs.Full.{full_plan}
 use Rattle.exhaustive.proofs.Arranging.{concat-full, length-full}
+
+-- the first of the numbers from a on
+pub take-up : (a j k : ℕ) → j ≤ k → take j (up_from a k) ≡ up_from a j
+take-up a zero k h = refl
+take-up a (suc j) zero h = absurd (omega arith)
+take-up a (suc j) (suc k) h = rw (take-up (suc a) j k (le_of_suc-le-suc h))
 
 put-next : (i : ℕ) → up_from 0 i ++ (i ∷ []) ≡ up_from 0 (i + 1)
 put-next i = let e : 0 + i ≡ i = omega arith in sym (up_from-append 0 i 1 ∙ ap (λ j. up_from 0 i ++ j ∷ []) e)

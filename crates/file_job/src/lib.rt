@@ -117,7 +117,8 @@ fn check_at(bytes: &[u8], at: usize) -> Result<Header, Refusal>
     })
 }
 
-// The task of a file that was checked, with its lists.
+// The task of a file that was checked, with its lists. They are filled where the caller keeps the task: so no frame has room for it twice.
+#[inline(always)]
 fn load(bytes: &[u8], at: usize, header: Header) -> Task
     requires { CheckedAt bytes.now at (Ok header) }
     ensures { (result.header ≡ header) × AcceptedAt bytes.now at header.end (task_of result) }
@@ -129,21 +130,18 @@ fn load(bytes: &[u8], at: usize, header: Header) -> Task
     let second = at + 113 + v * 29;
     let third = second + n * 15;
     let fourth = third + l * (14 * l + 1) + 15;
-    let mut vehicles = [0u32; 32];
-    let mut stops = [0u32; 64];
-    let mut distances = [0u32; 6400];
-    let mut draws = [0u32; 1024];
-    file_lines::fill_lines(bytes, at + 113, v, 2, &mut vehicles);
-    file_lines::fill_lines(bytes, second, n, 1, &mut stops);
-    file_lines::fill_lines(bytes, third, l, l, &mut distances);
-    file_lines::fill_lines(bytes, fourth, d, 1, &mut draws);
-    Task {
+    let mut task = Task {
         header,
-        vehicles,
-        stops,
-        distances,
-        draws,
-    }
+        vehicles: [0u32; 32],
+        stops: [0u32; 64],
+        distances: [0u32; 6400],
+        draws: [0u32; 1024],
+    };
+    file_lines::fill_lines(bytes, at + 113, v, 2, &mut task.vehicles);
+    file_lines::fill_lines(bytes, second, n, 1, &mut task.stops);
+    file_lines::fill_lines(bytes, third, l, l, &mut task.distances);
+    file_lines::fill_lines(bytes, fourth, d, 1, &mut task.draws);
+    task
 }
 
 // The task whose file stands at a position, where others may follow it.
@@ -154,7 +152,8 @@ pub fn read_at(bytes: &[u8], at: usize) -> Result<Task, Refusal>
     Ok(load(bytes, at, header))
 }
 
-// The task whose file the bytes are, with nothing before or after it.
+// The task whose file the bytes are, with nothing before or after it. As `load` does, it leaves the task where the caller keeps it.
+#[inline(always)]
 pub fn read_file(bytes: &[u8]) -> Result<Task, Refusal>
     ensures { ReadWhole bytes.now result }
 {

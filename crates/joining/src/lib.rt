@@ -3,9 +3,9 @@
 
 mod changes;
 
-ghost use Rattle.std.specs.Prelude.{◌≡◌, [], ◌∷◌, ◌++◌, ◌+◌, ◌≤◌, ◌<◌, length, take, drop, replicate};
-ghost use Rattle.model.specs.Lists.{concat, change};
-ghost use Rattle.model.specs.Plan.{unused, route_of, encode, decode, placed, Lent, Sizes};
+ghost use Rattle.std.specs.Prelude.{◌≡◌, [], ◌∷◌, ◌++◌, ◌+◌, ◌≤◌, ◌<◌, false, length, take, drop, replicate};
+ghost use Rattle.model.specs.Lists.{concat, change, with_last};
+ghost use Rattle.model.specs.Plan.{unused, route_of, encode, decode, placed, is_placed, Lent, Sizes};
 ghost use Rattle.model.specs.TwoOpt.{set_route};
 ghost use Rattle.model.specs.Live.{placing};
 ghost use Rattle.solution.specs.Held.{routes};
@@ -107,9 +107,10 @@ pub fn replace_two(old: &Plan, new: &mut [u32], a: usize, first: &[u32], b: usiz
 fn shift_in(part: &mut [u32], x: u32)
     ensures { part.new ≡ take (length part.old) (x ∷ part.old) }
 {
-    if let Some(last) = part.last_mut() {
-        *last = x;
-        part.rotate_right(1);
+    if !part.is_empty() {
+        let last = part.len() - 1;
+        part.copy_within(..last, 1);
+        part[0] = x;
     }
 }
 
@@ -125,13 +126,28 @@ pub fn put_in(plan: &mut [u32], v: usize, n: usize, k: usize, i: usize, stop: u3
     plan[k] = plan[k] + 1;
 }
 
+// Puts a stop that is on no route in at the end of route k, in the numbers of a plan, whose lent form is again one. So a caller changes a plan
+// that is a local of its own in place: behind a reference the numbers cannot be lent (see `insert`), and each change copies them.
+pub fn put_last(numbers: &mut [u32; 80], v: usize, n: usize, k: usize, stop: u32)
+    requires sizes { Sizes v n × Lent v n (take (v + n) numbers.old) }
+    requires place { k < v }
+    requires stop { (stop < n) × (is_placed stop (decode v (take (v + n) numbers.old)) ≡ false) }
+    ensures form { take (v + n) numbers.new ≡ encode n (with_last k stop (decode v (take (v + n) numbers.old))) }
+    ensures lent { Lent v n (take (v + n) numbers.new) }
+    ensures rest { drop (v + n) numbers.new ≡ drop (v + n) numbers.old }
+{
+    let size = numbers[k] as usize;
+    put_in(&mut numbers[..v + n], v, n, k, size, stop);
+}
+
 // Takes the first number of a list out: each other moves one place to the front, and 4294967295 stands last.
 fn shift_out(part: &mut [u32])
     requires { 1 ≤ length part.old }
     ensures { part.new ≡ drop 1 part.old ++ (unused ∷ []) }
 {
-    part[0] = 4294967295;
-    part.rotate_left(1);
+    let last = part.len() - 1;
+    part.copy_within(1.., 0);
+    part[last] = 4294967295;
 }
 
 // Takes the stop at place i of route k out, in the numbers of a lent form. It and put_in turn the other way and count the other way.

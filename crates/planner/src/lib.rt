@@ -98,12 +98,14 @@ pub fn pruned(job: &Job, plan: &mut [u32]) -> Result<f64, Refusal>
     Ok(cost)
 }
 
-// Runs the planner: the start plan, and rounds up to the end rule. The plan that is left keeps the promise about whole runs.
+// Runs the planner: the start plan, and rounds up to the end rule. The plan that is left keeps the promise about whole runs. The leg table is
+// filled where it stays, as a run reads it in many places (see `distance::unfilled`).
 pub fn solve(job: &Job, settings: &Settings, plan: &mut [u32]) -> Result<Totals, Refusal>
     ensures { Solves (running (of_lent job.now) settings.now.smoothing settings.now.limit settings.now.draws.now plan.old) result plan.new }
 {
     call_refusals::of_solve(job, settings, plan)?;
-    let tariff = distance::tariff_of(job);
+    let mut tariff = distance::unfilled(job.prices);
+    distance::fill_table(&job.network, &mut tariff.legs);
     let v = job.network.vehicles.len() / 2;
     let (held, totals) = ruin_and_recreate::run(&tariff, v, job.network.stops.len(), settings);
     plan.copy_from_slice(held.form());

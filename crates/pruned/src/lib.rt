@@ -64,7 +64,7 @@ fn reach(tariff: &Tariff, left: u64, plan: &Plan, bound: f64, best: &mut Plan, l
         let after = stop_set::without(left, stop);
         for k in 0..plan.v {
             let mut next = *plan;
-            joining::append(&mut next, k, stop);
+            joining::put_last(&mut next.numbers, plan.v, plan.n, k, stop);
             found = reach(tariff, after, &next, cost, best, found);
         }
     }

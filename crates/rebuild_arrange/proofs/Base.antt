@@ -131,7 +131,7 @@ module _ (tariff : Tariff) (plan : held.Plan) (regions : List Region) (A : Arran
   abbrev gs : List Region
   gs = regions
 
-  cost-exact : table_cost t p n P ≤ exact
+  pub cost-exact : table_cost t p n P ≤ exact
   cost-exact = omega (
     arith,
     cost-small t p tariff.legs.lengths tariff.affordable n P plan.sizes.stops

@@ -59,7 +59,8 @@ fn others_of(tariff: &Tariff, ways: &Ways, p: usize, m: u32) -> f64
     sum
 }
 
-// The table of ways of a framed plan, which costs so much.
+// The table of ways of a framed plan, which costs so much. The walk's frame has room for it once.
+#[inline(never)]
 fn table_ways(tariff: &Tariff, plan: &Plan, regions: &[Region], frame: &Frame, cost: f64) -> Ways
     requires { Tableable tariff.now plan.now regions.now frame.now cost }
     ensures { Tells tariff.now plan.now frame.now result }

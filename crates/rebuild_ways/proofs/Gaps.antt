@@ -13,12 +13,25 @@ use Rattle.delivery.proofs.Laws.{price-small}
 use Rattle.rebuild_survey.specs.declared.Gap.{Gap}
 use Rattle.rebuild_survey.specs.Surveys.{head_of, rest_of}
 use Rattle.rebuild_ways.specs.declared.Ways.{Ways}
-use Rattle.rebuild_ways.specs.Exact.{Wholly}
+use Rattle.rebuild_ways.specs.Exact.{IsExact, Wholly}
 use Rattle.rebuild_ways.specs.Ways.{cell_at, way_at, own_at, vacant_at, prices_at, base_at}
 use Rattle.rebuild_ways.specs.Table.{Fillable, Filled}
-use Rattle.rebuild_ways.specs.Fills.{RowsFilled, GapsFillable, GapsFilled}
+use Rattle.rebuild_ways.specs.Fills.{Written, InGaps, RowsFilled, GapsFillable, GapsFilled}
 use Rattle.rebuild_ways.proofs.Laws.{exact-whole}
-use Rattle.rebuild_ways.proofs.Filling.{whole-put, put-here, put-elsewhere}
+use Rattle.rebuild_ways.proofs.Filling.{whole-put, put-here, put-elsewhere, begins, more}
+
+-- nothing is written yet
+pub gaps-begin : (gaps : List Gap) (w : Ways) → GapsFilled gaps 0 w w
+gaps-begin gaps w =
+    record {
+      written_own = begins (InGaps 0) w.own w.whole_own;
+      written_vacant = begins (InGaps 0) w.vacant w.whole_vacant;
+      own = λ q h. absurd (omega arith);
+      vacant = λ q h. absurd (omega arith);
+      legs = refl;
+      priced = refl;
+      rest = refl;
+    }
 
 module _ (gaps : List Gap) (p : ℕ) (before : Ways) (F : GapsFillable gaps p before) (m : ℕ) (h : m < p) (w : Ways) (G : GapsFilled gaps m before w) where
   -- the length of the gap's route without what fills the gap
@@ -46,8 +59,11 @@ module _ (gaps : List Gap) (p : ℕ) (before : Ways) (F : GapsFillable gaps p be
   pub closable : IsWhole (whole around) × (amount (whole around) + way_at w (8 + m) (8 + m) ≤ 16000000)
   closable = ((around, omega (arith, F.short m h), refl), omega (arith, route-is, route-short))
 
+  own-is-exact : IsExact (whole around)
+  own-is-exact = exact-whole around (omega (arith, F.short m h))
+
   pub own-exact : Wholly (set w.own m (whole around))
-  own-exact = whole-put w.own w.whole_own m (whole around) (exact-whole around (omega (arith, F.short m h)))
+  own-exact = whole-put w.own w.whole_own m (whole around) own-is-exact
 
   module _ (vacant : Float) (E : vacant ≡ whole (price (prices_at w) (amount (whole around) + way_at w (8 + m) (8 + m)))) where
     vacant-is : vacant ≡ whole (price (prices_at before) route)
@@ -56,8 +72,11 @@ module _ (gaps : List Gap) (p : ℕ) (before : Ways) (F : GapsFillable gaps p be
     small : price (prices_at before) route ≤ exact
     small = omega (arith, price-small (prices_at before) F.affordable route route-short)
 
+    vacant-is-exact : IsExact vacant
+    vacant-is-exact = rw vacant-is (exact-whole (price (prices_at before) route) small)
+
     pub vacant-exact : Wholly (set w.vacant m vacant)
-    vacant-exact = whole-put w.vacant w.whole_vacant m vacant (rw vacant-is (exact-whole (price (prices_at before) route) small))
+    vacant-exact = whole-put w.vacant w.whole_vacant m vacant vacant-is-exact
 
     pub gaps-more : m < length w.own → m < length w.vacant → (after : Ways) → after.own ≡ set w.own m (whole around)
         → after.vacant ≡ set w.vacant m vacant → after.legs ≡ w.legs → prices_at after ≡ prices_at w → base_at after ≡ base_at w
@@ -65,6 +84,12 @@ module _ (gaps : List Gap) (p : ℕ) (before : Ways) (F : GapsFillable gaps p be
     unfolding route
     gaps-more lo lv after eo ev el ep eb =
         record {
+          written_own =
+              subst (Written (InGaps (m + 1)) before.own) (sym eo)
+              (more (InGaps m) (InGaps (m + 1)) before.own w.own m (whole around) G.written_own (λ i k. omega arith) (omega arith) own-is-exact);
+          written_vacant =
+              subst (Written (InGaps (m + 1)) before.vacant) (sym ev)
+              (more (InGaps m) (InGaps (m + 1)) before.vacant w.vacant m vacant G.written_vacant (λ i k. omega arith) (omega arith) vacant-is-exact);
           own =
               below_more (λ q. own_at after q ≡ head_of gaps q + rest_of gaps q) m
               (λ q k. ap (λ (l : List Float). cell_at l q) eo ∙ put-elsewhere w.own m (whole around) q (λ e. omega arith) ∙ G.own q k)
@@ -94,7 +119,7 @@ prices-kept p A x e =
     r
 
 module _ (t : Tariff) (starts ends : List ℕ) (gaps : List Gap) (p : ℕ) (base : Float) (F : Fillable starts ends gaps p base)
-    (w : Ways) (R : RowsFilled t.legs.table starts ends 11 w.legs) (ep : prices_at w ≡ t.prices) where
+    (blank : List Float) (w : Ways) (R : RowsFilled t.legs.table starts ends 11 blank w.legs) (ep : prices_at w ≡ t.prices) where
   pub gaps-fillable : GapsFillable gaps p w
   gaps-fillable =
       record {

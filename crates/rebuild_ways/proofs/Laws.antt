@@ -1,13 +1,24 @@
 -- What is read of a table of ways.
-use Rattle.std.proofs.Common.{◌≡◌, ℕ, zero, suc, replicate, ◌+◌, ◌≤◌, sym, ap, ap₂, ◌∙◌, arith}
-use lib.Ieee.{Float, binary64, of_bits, add, mul}
+use Rattle.std.proofs.Common.{◌≡◌, ℕ, zero, suc, replicate, ◌+◌, ◌≤◌, ◌<◌, List, [], ◌∷◌, length, get_or, refl, sym, ap, ap₂, ◌∙◌, arith}
+use lib.Ieee.{Float, binary64, of_bits, add, mul, nan}
 use Rattle.model.specs.declared.Prices.{Prices}
 use Rattle.model.specs.Whole.{exact, whole, amount, IsWhole}
 use Rattle.model.specs.Legs.{Affordable}
 use Rattle.model.specs.Cost.{price}
 use Rattle.whole.proofs.Laws.{amount-is, back_whole, whole-amount, zero-whole}
 use Rattle.rebuild_ways.specs.Exact.{IsExact, Wholly}
+use Rattle.rebuild_ways.specs.Ways.{cell_at}
 use Rattle.delivery.proofs.Laws.{sum-exact, price-exact}
+
+-- within a list it is the same whatever stands for what is past its end
+pub inside : {A : Type 0} (xs : List A) (i : ℕ) (a b : A) → i < length xs → get_or xs i a ≡ get_or xs i b
+inside [] i a b h = absurd (omega arith)
+inside (x ∷ xs) zero a b h = refl
+inside (x ∷ xs) (suc i) a b h = inside xs i a b (omega arith)
+
+-- what is read of a cell is its number
+pub read : (xs : List Float) → Wholly xs → (i : ℕ) → i < length xs → get_or xs i nan ≡ whole (cell_at xs i)
+read xs W i h = inside xs i nan (whole 0) h ∙ (W i).1
 
 -- a way one leg further
 pub further : (x y : Float) (n : ℕ) → IsWhole x → y ≡ whole n → amount x + n ≤ exact → add binary64 x y ≡ whole (amount x + n)

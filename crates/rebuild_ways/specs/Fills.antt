@@ -16,15 +16,34 @@ Roomy rows = (length rows ≡ 256) × Wholly rows
 abbrev pub leg_in : List Float → ℕ → ℕ → ℕ
 leg_in rows r c = cell_at rows (16 * r + c)
 
+-- whole numbers were written, and only at places of a kind
+pub record Written (of : ℕ → Type 0) (before after : List Float) : Type 0 where
+  pub long : length after ≡ length before
+  pub whole : Wholly after
+  pub kept : (i : ℕ) → (of i → ⊥) → cell_at after i ≡ cell_at before i
+
+-- i is one of the first m places of row r
+abbrev pub InRow : ℕ → ℕ → ℕ → Type 0
+InRow r m i = (c : ℕ) × (c < m) × (i ≡ 16 * r + c)
+
+-- i is a place of one of the first m rows
+abbrev pub InRows : ℕ → ℕ → Type 0
+InRows m i = (r : ℕ) × (r < m) × InRow r 11 i
+
+-- i is the place of one of the first m gaps
+abbrev pub InGaps : ℕ → ℕ → Type 0
+InGaps m i = i < m
+
 -- the legs from a place to the first m ends stand in row r, and all else stays
 pub record RowFilled (t : List ℕ) (from : ℕ) (ends : List ℕ) (r m : ℕ) (before after : List Float) : Type 0 where
   pub roomy : Roomy after
+  pub written : Written (InRow r m) before after
   pub row : (c : ℕ) → c < m → leg_in after r c ≡ leg_at t from (get_or ends c 0)
-  pub kept : (i : ℕ) → i < 16 * r → cell_at after i ≡ cell_at before i
 
--- the legs from the first m starts to each end stand in the first m rows
-pub record RowsFilled (t starts ends : List ℕ) (m : ℕ) (after : List Float) : Type 0 where
+-- the legs from the first m starts to each end stand in the first m rows, and all else stays
+pub record RowsFilled (t starts ends : List ℕ) (m : ℕ) (before after : List Float) : Type 0 where
   pub roomy : Roomy after
+  pub written : Written (InRows m) before after
   pub rows : (r c : ℕ) → r < m → c < 11 → leg_in after r c ≡ leg_at t (get_or starts r 0) (get_or ends c 0)
 
 -- what is asked to write what is known of p gaps: their routes are short enough for an exact price
@@ -34,8 +53,10 @@ pub record GapsFillable (gaps : List Gap) (p : ℕ) (ways : Ways) : Type 0 where
   pub short : (q : ℕ) → q < p → head_of gaps q + rest_of gaps q ≤ 13000000
   pub leg : (q : ℕ) → q < p → way_at ways (8 + q) (8 + q) ≤ 200000
 
--- what is known of the first m gaps is written, and the legs, the prices and the base stay
+-- what is known of the first m gaps is written, and all else stays: the other gaps, the legs, the prices and the base
 pub record GapsFilled (gaps : List Gap) (m : ℕ) (before after : Ways) : Type 0 where
+  pub written_own : Written (InGaps m) before.own after.own
+  pub written_vacant : Written (InGaps m) before.vacant after.vacant
   pub own : (q : ℕ) → q < m → own_at after q ≡ head_of gaps q + rest_of gaps q
   pub vacant : (q : ℕ) → q < m
       → vacant_at after q ≡ price (prices_at before) (head_of gaps q + rest_of gaps q + way_at before (8 + q) (8 + q))

@@ -111,7 +111,9 @@ impl Ways {
         }
     }
 
-    // A table filled with the legs from each start to each end, what is known of p gaps, the prices, and what all else costs.
+    // A table filled with the legs from each start to each end, what is known of p gaps, the prices, and what all else costs. It is made in a
+    // frame of its own, which is left before the walk begins.
+    #[inline(never)]
     pub fn filled(
         tariff: &Tariff,
         starts: &[u32; 16],

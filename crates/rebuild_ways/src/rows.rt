@@ -19,7 +19,7 @@ fn fill_row(legs: &Legs, from: usize, ends: &[u32; 16], row: usize, rows: &mut [
 // Writes all rows.
 pub fn fill_rows(legs: &Legs, starts: &[u32; 16], ends: &[u32; 16], rows: &mut [f64])
     requires { Ends starts.now × Ends ends.now × Roomy rows.old }
-    ensures { RowsFilled legs.now.table starts.now ends.now 11 rows.new }
+    ensures { RowsFilled legs.now.table starts.now ends.now 11 rows.old rows.new }
 {
     for r in 0..USED {
         fill_row(legs, starts[r] as usize, ends, r, rows);

@@ -45,6 +45,7 @@ fn change(new: u64, old: u64) -> i64
 }
 
 // Moves a stop to a place of a van, and returns the change in cost.
+#[inline(never)]
 pub fn move_stop(tariff: &Tariff, plan: &mut Plan, m: Move) -> i64
     requires { Movable plan.old m }
     ensures plan_after { Becomes plan.old plan.new (moved m (routes plan.old)) }

@@ -79,7 +79,7 @@ module _ (bytes : List ℕ) (at : ℕ) where
 
 module _ (bytes : List ℕ) (at : ℕ) (a : Option Head) (headed : HeadAt bytes at a) (k : Head) (e : a ≡ Some k) where
   there : HeadFound bytes at (number_of_call k.call) k.end (given_of k) (plan_of k)
-  there = let h : HeadAt bytes at (Some k) = rw e at headed in h
+  there = let h : HeadAt bytes at (Some k) = rw e at headed in h.0
 
   -- the head of any sheet there is the one that was read
   same : (to : ℕ) (S : Sheet) → SheetAt bytes at to S

@@ -9,6 +9,7 @@ use lib.ListN.{length, get_or, take, length-append}
 use Rattle.model.specs.File.{line, Stands}
 use Rattle.model.proofs.Sufficient.{largest-at}
 use Rattle.model.proofs.Pieces.{none-over-nil, stands-within, part_at, join-at, part, join, Fitting, fitting, fitting-nil, fitting-cons, line-length, same_line}
+use Rattle.file_lines.specs.Standing.{over}
 use Rattle.file_lines.proofs.Fills.{over-front}
 use Rattle.std.proofs.Common.{Option, Some, None, lit≤}
 use Rattle.sheet_head.specs.declared.Listed.{Listed}
@@ -20,6 +21,10 @@ use Rattle.sheet_head.specs.Reading.{Listing, ListAt, ListIf, Fits, Laid, CallAt
 use Rattle.sheet_head.proofs.Lists.{same-list}
 
 -- ---- a line that a call has, or has not
+
+-- numbers that are laid over the front of a list are its first
+front-laid : (ns old new : List ℕ) (count : ℕ) → count ≡ length ns → new ≡ over ns old → take count new ≡ ns
+front-laid ns old new count c w = (λ i. take (c i) (w i)) ∙ over-front ns old
 
 module _ (bytes : List ℕ) (at least most : ℕ) where
   listing : (known ns : List ℕ) → ListFor true least most known ns → Stands bytes at (line 14 ns) → Listing bytes at least most ns
@@ -65,11 +70,11 @@ module _ (bytes : List ℕ) (at least most : ℕ) where
       record { there = λ k. absurd (omega arith); room = omega arith }
 
   taken-laid : (b : Bool) (ns old new : List ℕ) (count : ℕ) → ListFor b least most [] ns → Stands bytes at (line_if b ns) → count ≡ length ns
-      → Laid bytes at count old new → take count new ≡ ns
-  taken-laid true ns old new count f s c w = (λ i. take (c i) (w ns (sym c) f.2 (λ _. s) i)) ∙ over-front ns old
+      → Laid bytes at count old new → new ≡ over ns old
+  taken-laid true ns old new count f s c w = w ns (sym c) f.2 (λ _. s)
   taken-laid false ns old new count f s c w =
       let z : count ≡ 0 = c ∙ ap length f in
-      (λ i. take (c i) (w ns (sym c) (rw f none-over-nil) (λ k. absurd (omega arith)) i)) ∙ over-front ns old
+      w ns (sym c) (rw f none-over-nil) (λ k. absurd (omega arith))
 
   -- or none such stands there
   pub missing : (b : Bool) (a : Option Listed) → ListIf b bytes at least most a → a ≡ None
@@ -230,14 +235,17 @@ module _ (bytes : List ℕ) (at : ℕ) where
 
             pub head_read : (given given' plan plan' : List ℕ) → Laid bytes (at + 15) g.count given given' → Laid bytes g.end l.count plan plan'
                 → HeadFound bytes at (number_of_call who) l.end (take g.count given') (take l.count plan')
+                × (given' ≡ over (take g.count given') given) × (plan' ≡ over (take l.count plan') plan)
             head_read given given' plan plan' v w =
                 let t = stops_taken in
                 let u = numbers_taken in
-                let stops : take g.count given' ≡ t.numbers =
+                let x : given' ≡ over t.numbers given =
                 taken-laid bytes (at + 15) (least_given (number_of_call who)) (most_given (number_of_call who)) (has_given (number_of_call who)) t.numbers given given' g.count t.form t.stand t.counted v in
-                let numbers : take l.count plan' ≡ u.numbers =
+                let y : plan' ≡ over u.numbers plan =
                 taken-laid bytes g.end 0 longest_plan (has_plan (number_of_call who)) u.numbers plan plan' l.count u.form u.stand u.counted w in
-                rw (stops, numbers) head_taken
+                let stops : take g.count given' ≡ t.numbers = front-laid t.numbers given given' g.count t.counted x in
+                let numbers : take l.count plan' ≡ u.numbers = front-laid u.numbers plan plan' l.count u.counted y in
+                (rw (stops, numbers) head_taken, x ∙ ap (λ ns. over ns given) (sym stops), y ∙ ap (λ ns. over ns plan) (sym numbers))
 
   -- two heads that stand there are the same, but for a plan that has no line
   pub record SameHead (n : ℕ) (s p known : List ℕ) (m : ℕ) (t q known_too : List ℕ) : Type 0 where

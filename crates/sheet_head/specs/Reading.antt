@@ -1,5 +1,5 @@
 -- What is read of a sheet before its job file.
-use Rattle.std.specs.Prelude.{◌≡◌, ℕ, ◌+◌, ◌*◌, ◌≤◌, Bool, true, false, List, [], ◌∷◌, length, take, Option, Some, None}
+use Rattle.std.specs.Prelude.{◌≡◌, ℕ, ◌+◌, ◌*◌, ◌≤◌, Bool, true, false, List, [], ◌∷◌, length, take, replicate, Option, Some, None}
 use Rattle.model.specs.File.{line, NoneOver, Stands}
 use Rattle.file_lines.specs.Standing.{LineAt, over}
 use Rattle.sheet_head.specs.declared.Listed.{Listed}
@@ -70,7 +70,13 @@ pub record HeadFound (bytes : List ℕ) (at call end : ℕ) (given plan : List �
   pub lines : HeadOf bytes at call given plan []
   pub ends : end ≡ at + length (head_of call given plan)
 
--- so, or none such stand there
+-- an array of so many numbers is these, and zeros after them
+abbrev pub ZerosAfter : ℕ → List ℕ → List ℕ → Type 0
+ZerosAfter size ns array = array ≡ over ns (replicate size 0)
+
+-- so, in arrays that have zeros after them, or none such stand there
 abbrev pub HeadAt : List ℕ → ℕ → Option Head → Type 0
-HeadAt bytes at (Some k) = HeadFound bytes at (number_of_call k.call) k.end (given_of k) (plan_of k)
+HeadAt bytes at (Some k) =
+    HeadFound bytes at (number_of_call k.call) k.end (given_of k) (plan_of k) × ZerosAfter 8 (given_of k) k.given
+    × ZerosAfter longest_plan (plan_of k) k.plan
 HeadAt bytes at None = (call : ℕ) (given plan known : List ℕ) → HeadOf bytes at call given plan known → ⊥

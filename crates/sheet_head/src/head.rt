@@ -4,7 +4,7 @@ use crate::Call;
 
 // What stands before the job file of a sheet: the call, the numbers that it is given and those of the line of a plan (none where there
 // is no such line), which stand at the front of the arrays, and where the job file begins.
-#[derive(Drop)]
+#[derive(Clone, Copy)]
 pub struct Head {
     pub call: Call,
     pub given_count: usize,

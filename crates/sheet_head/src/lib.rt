@@ -54,6 +54,28 @@ impl TryFrom<u32> for Call {
     }
 }
 
+// The number of a call.
+impl From<Call> for u32 {
+    ghost from_gives = { λ c n. n ≡ number_of_call c };
+
+    fn from(call: Call) -> u32 {
+        match call {
+            Call::Weigh => 1,
+            Call::StartPlan => 2,
+            Call::TwoOpt => 3,
+            Call::Rebuild => 4,
+            Call::Exhaustive => 5,
+            Call::Pruned => 6,
+            Call::Solve => 7,
+            Call::Arrive => 8,
+            Call::Cancel => 9,
+            Call::View => 10,
+            Call::MoveStop => 11,
+            Call::Roadworks => 12,
+        }
+    }
+}
+
 // How many numbers a call is given: at least and at most so many.
 fn given_counts(call: Call) -> (usize, usize)
     ensures { (result.0 ≡ least_given (number_of_call call)) × (result.1 ≡ most_given (number_of_call call)) }

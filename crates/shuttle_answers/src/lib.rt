@@ -12,7 +12,8 @@ use model::Refusal;
 use std::io::{self, Read, Write};
 use std::str;
 
-// Runs a task and prints the answer: how many bytes it is.
+// Runs a task and prints the answer: how many bytes it is. It stays a call, so that the task stands once in its caller's frame.
+#[inline(never)]
 fn run(task: &Task, out: &mut [u8]) -> usize
     requires { most_for_file ≤ length out.old }
     ensures { Prints out.old out.new result (printed_task (task_of task.now)) }

@@ -17,7 +17,7 @@ use Rattle.model.specs.TwoOpt.{cheapest, set_route, turned, inter}
 use Rattle.model.proofs.Lists.{count-append, change-none}
 use Rattle.model.proofs.Counts.{count-route, length-kept}
 use Rattle.model.proofs.Cost.{route_cost, cost-routes, cheaper-alike}
-use Rattle.model.proofs.Moves.{count-turned, count-exchanged}
+use Rattle.model.proofs.Moves.{Moved, moved-routes, count-turned, count-exchanged}
 use Rattle.distance.specs.Ways.{Below}
 use Rattle.distance.proofs.Laws.{way-route}
 use Rattle.delivery.specs.Costs.{table_price}
@@ -97,6 +97,12 @@ pub plan-old : (P : Plan) (a s b t : ℕ) → plan_at P a s b t 0 ≡ P
 plan-old P a s b t =
     rw (take-append-drop (position s (route_of P a) + 0) (route_of P a), take-append-drop (position t (route_of P b) + 0) (route_of P b))
     (ap (λ (Q : Plan). set_route b (route_of P b) Q) (change-none a (λ _. route_of P a) P [] refl) ∙ change-none b (λ _. route_of P b) P [] refl)
+
+module _ (P : Plan) (a s b t : ℕ) (ha : a < length P) (hb : b < length P) (ne : a ≢ b) (code : ℕ) where
+  pub plan-moved : Moved P (plan_at P a s b t code)
+  plan-moved =
+      let x = candidate (route_of P a) s (route_of P b) t code in
+      moved-routes a b x.0 x.1 P ha hb (λ e. ne (sym e)) (candidate-counts (route_of P a) s (route_of P b) t code)
 
 -- ---- over a leg table that fits a job
 

@@ -3,4 +3,4 @@ use Rattle.distance.specs.Table.{Row}
 use Rattle.distance.proofs.fill_row.Given as goal
 
 abbrev pub invariant-loop-i : goal.invariant-loop-i
-invariant-loop-i l = Row l.network.distances.now l.network.locations l.from l.ends l.first l.i l.initial.legs l.legs
+invariant-loop-i l = Row l.network.distances.now l.network.locations l.from l.ends l.first l.i l.initial.legs.table l.legs.table

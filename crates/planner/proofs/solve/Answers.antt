@@ -23,11 +23,17 @@ returns-in_err-of_solve c =
     let r : c.from_residual.result ≡ Err c.in_err-of_solve.field-0.0 = search rules in
     solves-refused (given (goal.at.returns-in_err-of_solve c).After-of_solve) _ _ r c.in_err-of_solve.ensures
 
-pub tariff_of-tariff-requires : goal.tariff_of-tariff-requires
-tariff_of-tariff-requires c =
-    let A = given (goal.at.tariff_of-tariff-requires c).After-of_solve in
+pub unfilled-tariff-requires : goal.unfilled-tariff-requires
+unfilled-tariff-requires c =
+    let A = given (goal.at.unfilled-tariff-requires c).After-of_solve in
     let e = sym c.in_ok-of_solve.ensures in
-    weighable Solve A e refl
+    (weighable Solve A e refl).1
+
+pub fill_table-requires : goal.fill_table-requires
+fill_table-requires c =
+    let A = given (goal.at.fill_table-requires c).After-of_solve in
+    let e = sym c.in_ok-of_solve.ensures in
+    (weighable Solve A e refl).0
 
 pub run-requires : goal.run-requires
 run-requires c =
@@ -45,6 +51,5 @@ unfolding made
 returns c =
     let A = given (goal.at.returns c).After-of_solve in
     let e = sym c.in_ok-of_solve.ensures in
-    let t = c.tariff_of-tariff.ensures in
-    let d = c.run.ensures.ran A.job (rw t.1 (t.0.fits A.job.prices)) in
+    let d = c.run.ensures.ran A.job (rw c.unfilled-tariff.ensures.1 (c.fill_table.ensures.fits A.job.prices)) in
     solves-accepted A _ _ e d.0 (c.copy_from_slice.ensures.after ∙ c.form.ensures ∙ d.1.form)

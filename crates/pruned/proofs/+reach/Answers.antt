@@ -1,4 +1,5 @@
 use Prim.Native.Nat.{ℕ, ◌≤◌}
+use mathlib.Core.Path.{refl}
 use native.Mathlib.Omega.{arith}
 use native.Mathlib.Nat.{pos_of_ne-zero}
 use lib.Ieee.{Float, binary64, add}
@@ -75,10 +76,15 @@ loop-rest-preserved t c =
     stops-more c.loop-rest.invariant c.lowest-stop.result c.lowest-stop.ensures c.without-rest.result c.without-rest.ensures
     l.best l.found l.invariant.stands (on-all l.invariant c.loop-k-test.false)
 
-pub append-requires : goal.append-requires
-append-requires t c =
-    let i = is-left t (goal.at.append-requires t c).After-without-after in
-    record { place = c.loop-k-test.true; stop = (known c.requires c.lowest-stop.result i, off c.requires c.lowest-stop.result i) }
+pub put_last-requires-clause-stop : goal.put_last-requires-clause-stop
+put_last-requires-clause-stop t c =
+    let i = is-left t (goal.at.put_last-requires-clause-stop t c).After-without-after in
+    (known c.requires c.lowest-stop.result i, off c.requires c.lowest-stop.result i)
+
+pub invariant_of-next : goal.invariant_of-next
+invariant_of-next t c =
+    let p = c.args.plan.now in
+    record { sizes = p.sizes; lent = c.put_last.ensures.lent }
 
 pub reach-found-requires : goal.reach-found-requires
 reach-found-requires t c =
@@ -87,7 +93,7 @@ reach-found-requires t c =
     let i = is-left t (goal.at.reach-found-requires t c).After-without-after in
     let w = weighs t (goal.at.reach-found-requires t c).After-missed_cost in (
       omega (arith, fewer c.requires stop i c.without-after.result c.without-after.ensures),
-      onward c.requires stop i c.without-after.result c.without-after.ensures l.k c.loop-k-test.true c.append.new.plan c.append.ensures
+      onward c.requires stop i c.without-after.result c.without-after.ensures l.k c.loop-k-test.true _ (record { vehicles = refl; stops = refl; form = c.put_last.ensures.form })
           _ (cost-whole c.args.tariff.now c.args.plan.now _ w) l.best l.found l.invariant.stands,
     )
 
@@ -99,9 +105,9 @@ loop-k-preserved t c =
     let i = is-left t (goal.at.loop-k-preserved t c).After-without-after in
     let w = weighs t (goal.at.loop-k-preserved t c).After-missed_cost in
     on-more l.invariant k.new.best k.result c.loop-k-test.true
-    (went-on c.requires stop i c.without-after.result c.without-after.ensures l.k c.loop-k-test.true c.append.new.plan c.append.ensures
+    (went-on c.requires stop i c.without-after.result c.without-after.ensures l.k c.loop-k-test.true _ (record { vehicles = refl; stops = refl; form = c.put_last.ensures.form })
     _ w l.best k.new.best k.result k.ensures)
-    (went c.requires stop i c.without-after.result c.without-after.ensures l.k c.loop-k-test.true c.append.new.plan c.append.ensures
+    (went c.requires stop i c.without-after.result c.without-after.ensures l.k c.loop-k-test.true _ (record { vehicles = refl; stops = refl; form = c.put_last.ensures.form })
     _ w l.best k.new.best k.result k.ensures)
 
 pub returns : goal.returns

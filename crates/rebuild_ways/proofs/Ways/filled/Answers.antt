@@ -21,11 +21,11 @@ invariant_of-ways c =
 pub fill_gaps-requires : goal.fill_gaps-requires
 fill_gaps-requires c =
     let a = c.args in
-    gaps-fillable a.tariff.now a.starts.now a.ends.now a.gaps.now a.p a.base c.requires _ c.fill_rows.ensures
+    gaps-fillable a.tariff.now a.starts.now a.ends.now a.gaps.now a.p a.base c.requires _ _ c.fill_rows.ensures
     (prices-kept a.tariff.now.prices a.tariff.now.affordable c.of_u64-missed.result c.of_u64-missed.ensures)
 
 pub returns : goal.returns
 returns c =
     let a = c.args in
-    filled a.tariff.now a.starts.now a.ends.now a.gaps.now a.p a.base c.requires _ c.fill_rows.ensures
+    filled a.tariff.now a.starts.now a.ends.now a.gaps.now a.p a.base c.requires _ _ c.fill_rows.ensures
     (prices-kept a.tariff.now.prices a.tariff.now.affordable c.of_u64-missed.result c.of_u64-missed.ensures) refl c.fill_gaps.new.self c.fill_gaps.ensures
