@@ -9,10 +9,10 @@ use Rattle.file_job.specs.Reading.{task_of}
 
 module _ (t : file.Task) where
   few-vehicles : length (task_of t).job.vehicles ≤ 32
-  few-vehicles = omega (arith, t.fits.vehicles, length-take (t.header.vehicles * 2) t.vehicles)
+  few-vehicles = omega (arith, t.fits.vehicles, length-take (t.header.vehicles * 2) t.lists.vehicles)
 
   few-stops : length (task_of t).job.stops ≤ 64
-  few-stops = omega (arith, t.fits.stops, length-take t.header.stops t.stops)
+  few-stops = omega (arith, t.fits.stops, length-take t.header.stops t.lists.stops)
 
   -- so a job that is the task's has a short plan
   pub places-few : (J : Job) → J ≡ (task_of t).job → length J.vehicles / 2 + length J.stops ≤ 80

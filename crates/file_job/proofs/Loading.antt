@@ -3,7 +3,7 @@ use mathlib.Core.Path.{◌≡◌, sym, ◌∙◌, ap, subst}
 use Prim.Native.Nat.{ℕ, ◌+◌, ◌*◌, ◌≤◌}
 use native.Mathlib.Nat.{mul-le-mul}
 use native.Mathlib.Omega.{arith}
-use mathlib.Core.List.{List}
+use mathlib.Core.List.{List, ◌++◌}
 use lib.ListN.{length, take, drop}
 use lib.Seq.{take_at}
 use Rattle.std.proofs.Common.{Ok}
@@ -13,18 +13,11 @@ use Rattle.model.specs.File.{line, lines, first_numbers, NoneOver, Stands, Accep
 use Rattle.model.proofs.Pieces.{stands-within, line-length}
 use Rattle.model.proofs.Tasks.{Placed, placed, first-fitting, draw-parts, stops_at, distances_at, count_at, draws_at}
 use Rattle.file_job.specs.declared.header.Header.{Header}
-use Rattle.file_lines.specs.Standing.{Fillable, Filled}
-use Rattle.file_job.specs.Reading.{header_of, CheckedAt}
+use Rattle.file_lines.specs.Standing.{Fillable, Filled, over}
+use Rattle.file_job.specs.declared.task.Lists.{Lists}
+use Rattle.file_job.specs.Fits.{Fits}
+use Rattle.file_job.specs.Reading.{header_of, task_in, CheckedAt, Behind, ListsFilled}
 use Rattle.file_job.proofs.Checked.{table-bytes}
-
--- the task of a header and of the lists that begin with its own
-abbrev pub task_in : Header → List ℕ → List ℕ → List ℕ → List ℕ → Task
-task_in h vs ss ds rs =
-    task_for
-    (job_of (take (h.vehicles * 2) vs) (take h.stops ss) h.locations (take (h.locations * h.locations) ds) h.prices)
-    h.smoothing
-    h.limit
-    (take h.draws rs)
 
 -- what a header that was read says of the sizes
 pub record Sizes (bytes : List ℕ) (at : ℕ) (h : Header) : Type 0 where
@@ -97,14 +90,21 @@ module _ (bytes : List ℕ) (at : ℕ) (h : Header) (T : Task) (a : AcceptedAt b
         room = omega (arith, r.draws, room);
       })
 
--- lines that hold a list are written as that list to the front
+-- lines that hold a list are written as that list to the front, and what stands behind it stays
 filled-front : (bytes : List ℕ) (at m k j : ℕ) (old new ns : List ℕ) → Filled bytes at m k old new → j ≡ m * k → length ns ≡ m * k → NoneOver ns
-    → Stands bytes at (lines m k ns) → take j new ≡ ns
-filled-front bytes at m k j old new ns f e c o s = ap (take j) (f ns c o s) ∙ take_at ns (drop (m * k) old) j (c ∙ sym e)
+    → Stands bytes at (lines m k ns) → (take j new ≡ ns) × (new ≡ over (take j new) old)
+filled-front bytes at m k j old new ns f e c o s =
+    let front : take j new ≡ ns = ap (take j) (f ns c o s) ∙ take_at ns (drop (m * k) old) j (c ∙ sym e) in
+    let laid : new ≡ over ns old = f ns c o s ∙ ap (λ (d : ℕ). ns ++ drop d old) (sym c) in
+    (front, laid ∙ ap (λ (xs : List ℕ). over xs old) (sym front))
 
 module _ (bytes : List ℕ) (at : ℕ) (h : Header) (ok : CheckedAt bytes at (Ok h)) where
   pub sizes : Sizes bytes at h
   sizes = sizes-of bytes at h ok.0 ok.1 ok.2
+
+  -- a task with this header can be made
+  pub fits : Fits h
+  fits = record { vehicles = omega (arith, sizes); stops = omega (arith, sizes); locations = omega (arith, sizes); draws = omega (arith, sizes) }
 
   pub vehicles-there : (list : List ℕ) → 32 ≤ length list → Fillable bytes (at + 113) h.vehicles 2 list
   vehicles-there = vehicles-of bytes at h ok.0 ok.1 ok.2
@@ -119,12 +119,12 @@ module _ (bytes : List ℕ) (at : ℕ) (h : Header) (ok : CheckedAt bytes at (Ok
   draws-there = draws-of bytes at h ok.0 ok.1 ok.2
 
   -- the lists that were written are those of the task whose file stands there
-  module _ (vs0 vs ss0 ss ds0 ds rs0 rs : List ℕ)
-      (fv : Filled bytes (at + 113) h.vehicles 2 vs0 vs)
-      (fs : Filled bytes (stops_at at h.vehicles) h.stops 1 ss0 ss)
-      (fd : Filled bytes (distances_at at h.vehicles h.stops) h.locations h.locations ds0 ds)
-      (fr : Filled bytes (draws_at at h.vehicles h.stops h.locations) h.draws 1 rs0 rs) where
-    loaded : task_in h vs ss ds rs ≡ ok.0
+  module _ (old new : Lists)
+      (fv : Filled bytes (at + 113) h.vehicles 2 old.vehicles new.vehicles)
+      (fs : Filled bytes (stops_at at h.vehicles) h.stops 1 old.stops new.stops)
+      (fd : Filled bytes (distances_at at h.vehicles h.stops) h.locations h.locations old.distances new.distances)
+      (fr : Filled bytes (draws_at at h.vehicles h.stops h.locations) h.draws 1 old.draws new.draws) where
+    loaded : (task_in h new ≡ ok.0) × Behind h old new
     loaded =
         let T = ok.0 in
         let e = ok.2 in
@@ -135,20 +135,22 @@ module _ (bytes : List ℕ) (at : ℕ) (h : Header) (ok : CheckedAt bytes at (Ok
         let l : h.locations ≡ T.job.locations = ap (λ x. x.locations) e in
         let d : h.draws ≡ length T.draws = ap (λ x. x.draws) e in
         let counted = count_at at (vehicle_count T.job) (stop_count T.job) T.job.locations in
-        let vehicles : take (h.vehicles * 2) vs ≡ T.job.vehicles =
-        filled-front bytes (at + 113) (vehicle_count T.job) 2 (h.vehicles * 2) vs0 vs T.job.vehicles
+        let vehicles =
+        filled-front bytes (at + 113) (vehicle_count T.job) 2 (h.vehicles * 2) old.vehicles new.vehicles T.job.vehicles
         (rw v at fv) (ap (λ k. k * 2) v) r.ends r.vehicle_numbers p.vehicles in
-        let stops : take h.stops ss ≡ T.job.stops =
-        filled-front bytes (stops_at at (vehicle_count T.job)) (stop_count T.job) 1 h.stops ss0 ss T.job.stops
+        let stops =
+        filled-front bytes (stops_at at (vehicle_count T.job)) (stop_count T.job) 1 h.stops old.stops new.stops T.job.stops
         (rw (v, n) at fs) (omega (arith, n)) (omega arith) r.stop_numbers p.stops in
-        let distances : take (h.locations * h.locations) ds ≡ T.job.distances =
+        let distances =
         filled-front bytes (distances_at at (vehicle_count T.job) (stop_count T.job)) T.job.locations T.job.locations (h.locations * h.locations)
-        ds0 ds T.job.distances (rw (v, n, l) at fd) (ap (λ k. k * k) l) r.square r.distance_numbers p.distances in
-        let draws : take h.draws rs ≡ T.draws =
-        filled-front bytes (counted + 15) (length T.draws) 1 h.draws rs0 rs T.draws
+        old.distances new.distances T.job.distances (rw (v, n, l) at fd) (ap (λ k. k * k) l) r.square r.distance_numbers p.distances in
+        let draws =
+        filled-front bytes (counted + 15) (length T.draws) 1 h.draws old.draws new.draws T.draws
         (rw (v, n, l, d) at fr) (omega (arith, d)) (omega arith) r.draw_numbers
-        (draw-parts T.draws r.draws bytes counted p.draws).1 in
-        λ i. task_for (job_of (vehicles i) (stops i) (e i).locations (distances i) (e i).prices) (e i).smoothing (e i).limit (draws i)
+        (draw-parts T.draws r.draws bytes counted p.draws).1 in (
+          λ i. task_for (job_of (vehicles.0 i) (stops.0 i) (e i).locations (distances.0 i) (e i).prices) (e i).smoothing (e i).limit (draws.0 i),
+          record { vehicles = vehicles.1; stops = stops.1; distances = distances.1; draws = draws.1 },
+        )
 
-    pub loaded-stands : AcceptedAt bytes at h.end (task_in h vs ss ds rs)
-    loaded-stands = subst (λ T. AcceptedAt bytes at h.end T) (sym loaded) ok.1
+    pub lists-filled : ListsFilled bytes at h old new
+    lists-filled = record { there = subst (λ T. AcceptedAt bytes at h.end T) (sym loaded.0) ok.1; behind = loaded.1 }

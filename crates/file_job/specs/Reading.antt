@@ -1,5 +1,5 @@
 -- What is read from a file: its first line, its draws, and the whole task.
-use Rattle.std.specs.Prelude.{◌≡◌, ℕ, ◌+◌, ◌*◌, ◌^◌, ◌≤◌, ◌<◌, List, [], ◌∷◌, length, take, Option, Some, None, Result, Ok, Err}
+use Rattle.std.specs.Prelude.{◌≡◌, ℕ, ◌+◌, ◌*◌, ◌^◌, ◌≤◌, ◌<◌, List, [], ◌∷◌, length, take, replicate, Option, Some, None, Result, Ok, Err}
 use Rattle.model.specs.declared.refusal.Refusal.{Refusal}
 use Rattle.model.specs.Numbers.{number_of}
 use Rattle.model.specs.Job.{job_of, vehicle_count, stop_count}
@@ -7,8 +7,9 @@ use Rattle.model.specs.Run.{Task, task_for}
 use Rattle.model.specs.File.{line, draw_lines, largest_number, NoneOver, Stands, Accepted, AcceptedAt}
 use Rattle.file_job.specs.declared.FirstNumbers.{FirstNumbers}
 use Rattle.file_job.specs.declared.header.Header.{Header}
+use Rattle.file_job.specs.declared.task.Lists.{Lists}
 use Rattle.file_job.specs.declared.task.Task as file
-use Rattle.file_lines.specs.Standing.{LinesAt}
+use Rattle.file_lines.specs.Standing.{LinesAt, over}
 
 -- ---- the first line
 
@@ -74,20 +75,43 @@ abbrev pub CheckedAt : List ℕ → ℕ → Result Header Refusal → Type 0
 CheckedAt bytes at (Ok h) = (T : Task) × AcceptedAt bytes at h.end T × (h ≡ header_of T h.end)
 CheckedAt bytes at (Err refusal) = (number_of refusal ≡ 14) × ((to : ℕ) (T : Task) → AcceptedAt bytes at to T → ⊥)
 
--- the task of a file, as the lists that count
-abbrev pub task_of : file.Task → Task
-task_of t =
-    let h = t.header in
+-- the task of a header and of the lists that begin with its own
+abbrev pub task_in : Header → Lists → Task
+task_in h x =
     task_for
-    (job_of
-    (take (h.vehicles * 2) t.vehicles)
-    (take h.stops t.stops)
-    h.locations
-    (take (h.locations * h.locations) t.distances)
-    h.prices)
+    (job_of (take (h.vehicles * 2) x.vehicles) (take h.stops x.stops) h.locations (take (h.locations * h.locations) x.distances) h.prices)
     h.smoothing
     h.limit
-    (take h.draws t.draws)
+    (take h.draws x.draws)
+
+-- the task of a file, as the lists that count
+abbrev pub task_of : file.Task → Task
+task_of t = task_in t.header t.lists
+
+-- arrays that begin with the lists of a header: what stands behind these is as it was
+pub record Behind (h : Header) (before x : Lists) : Type 0 where
+  pub vehicles : x.vehicles ≡ over (take (h.vehicles * 2) x.vehicles) before.vehicles
+  pub stops : x.stops ≡ over (take h.stops x.stops) before.stops
+  pub distances : x.distances ≡ over (take (h.locations * h.locations) x.distances) before.distances
+  pub draws : x.draws ≡ over (take h.draws x.draws) before.draws
+
+-- the lists of the task whose file stands there are written to the front of arrays
+pub record ListsFilled (bytes : List ℕ) (at : ℕ) (h : Header) (before x : Lists) : Type 0 where
+  pub there : AcceptedAt bytes at h.end (task_in h x)
+  pub behind : Behind h before x
+
+-- arrays of zeros
+abbrev pub zeros : Lists
+zeros = record { vehicles = replicate 32 0; stops = replicate 64 0; distances = replicate 6400 0; draws = replicate 1024 0 }
+
+-- the arrays of a task are its lists, and zeros after them
+abbrev pub ZerosAfter : file.Task → Type 0
+ZerosAfter t = Behind t.header zeros t.lists
+
+-- so are those of a task that is answered
+abbrev pub Blank : Result file.Task Refusal → Type 0
+Blank (Ok t) = ZerosAfter t
+Blank (Err _) = Unit
 
 -- reading at a position: the one task whose file stands there, and where it ends; or refusal 14 where none does
 abbrev pub ReadAt : List ℕ → ℕ → Result file.Task Refusal → Type 0

@@ -13,10 +13,10 @@ impl Task {
         let l = self.header.locations as usize;
         Job {
             network: Network {
-                vehicles: &self.vehicles[..self.header.vehicles * 2],
-                stops: &self.stops[..self.header.stops],
+                vehicles: &self.lists.vehicles[..self.header.vehicles * 2],
+                stops: &self.lists.stops[..self.header.stops],
                 locations: self.header.locations,
-                distances: &self.distances[..l * l],
+                distances: &self.lists.distances[..l * l],
             },
             prices: self.header.prices,
         }
@@ -31,7 +31,7 @@ impl Task {
         Settings {
             smoothing: self.header.smoothing,
             limit: self.header.limit,
-            draws: &self.draws[..self.header.draws],
+            draws: &self.lists.draws[..self.header.draws],
         }
     }
 }

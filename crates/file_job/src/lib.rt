@@ -8,11 +8,11 @@ mod task;
 ghost use Rattle.std.specs.Prelude.{◌≡◌, Ok};
 ghost use Rattle.model.specs.File.{AcceptedAt};
 ghost use Rattle.file_lines.specs.Standing.{Says};
-ghost use Rattle.file_job.specs.Reading.{FirstAt, TablesAt, DrawsAt, CheckedAt, task_of, ReadAt, ReadWhole};
+ghost use Rattle.file_job.specs.Reading.{FirstAt, TablesAt, DrawsAt, CheckedAt, task_of, ListsFilled, ZerosAfter, Blank, ReadAt, ReadWhole};
 
 pub use header::Header;
 use model::{Prices, Refusal};
-pub use task::Task;
+pub use task::{Lists, Task};
 
 // The numbers of a file's first line.
 #[derive(Clone, Copy)]
@@ -86,7 +86,7 @@ fn check_draws(bytes: &[u8], at: usize) -> Option<usize>
 }
 
 // The task whose file stands at a position, without its lists, which are only checked.
-fn check_at(bytes: &[u8], at: usize) -> Result<Header, Refusal>
+pub fn check_at(bytes: &[u8], at: usize) -> Result<Header, Refusal>
     ensures { CheckedAt bytes.now at result }
 {
     let first = read_first_line(bytes, at).ok_or(Refusal::File)?;
@@ -117,11 +117,11 @@ fn check_at(bytes: &[u8], at: usize) -> Result<Header, Refusal>
     })
 }
 
-// The task of a file that was checked, with its lists. They are filled where the caller keeps the task: so no frame has room for it twice.
-#[inline(always)]
-fn load(bytes: &[u8], at: usize, header: Header) -> Task
+// Fills the lists of a task whose file was checked: what stands behind them stays. A caller lends those of a task of its own, which so is filled
+// where it stays: one that is returned is copied where much is done with it.
+pub fn fill_lists(bytes: &[u8], at: usize, header: Header, lists: &mut Lists)
     requires { CheckedAt bytes.now at (Ok header) }
-    ensures { (result.header ≡ header) × AcceptedAt bytes.now at header.end (task_of result) }
+    ensures { ListsFilled bytes.now at header lists.old lists.new }
 {
     let v = header.vehicles;
     let n = header.stops;
@@ -130,23 +130,35 @@ fn load(bytes: &[u8], at: usize, header: Header) -> Task
     let second = at + 113 + v * 29;
     let third = second + n * 15;
     let fourth = third + l * (14 * l + 1) + 15;
+    file_lines::fill_lines(bytes, at + 113, v, 2, &mut lists.vehicles);
+    file_lines::fill_lines(bytes, second, n, 1, &mut lists.stops);
+    file_lines::fill_lines(bytes, third, l, l, &mut lists.distances);
+    file_lines::fill_lines(bytes, fourth, d, 1, &mut lists.draws);
+}
+
+// The task of a file that was checked, with its lists.
+#[inline(always)]
+fn load(bytes: &[u8], at: usize, header: Header) -> Task
+    requires { CheckedAt bytes.now at (Ok header) }
+    ensures { (result.header ≡ header) × AcceptedAt bytes.now at header.end (task_of result) × ZerosAfter result }
+{
     let mut task = Task {
         header,
-        vehicles: [0u32; 32],
-        stops: [0u32; 64],
-        distances: [0u32; 6400],
-        draws: [0u32; 1024],
+        lists: Lists {
+            vehicles: [0u32; 32],
+            stops: [0u32; 64],
+            distances: [0u32; 6400],
+            draws: [0u32; 1024],
+        },
     };
-    file_lines::fill_lines(bytes, at + 113, v, 2, &mut task.vehicles);
-    file_lines::fill_lines(bytes, second, n, 1, &mut task.stops);
-    file_lines::fill_lines(bytes, third, l, l, &mut task.distances);
-    file_lines::fill_lines(bytes, fourth, d, 1, &mut task.draws);
+    fill_lists(bytes, at, header, &mut task.lists);
     task
 }
 
 // The task whose file stands at a position, where others may follow it.
 pub fn read_at(bytes: &[u8], at: usize) -> Result<Task, Refusal>
-    ensures { ReadAt bytes.now at result }
+    ensures read { ReadAt bytes.now at result }
+    ensures rest { Blank result }
 {
     let header = check_at(bytes, at)?;
     Ok(load(bytes, at, header))
@@ -155,7 +167,8 @@ pub fn read_at(bytes: &[u8], at: usize) -> Result<Task, Refusal>
 // The task whose file the bytes are, with nothing before or after it. As `load` does, it leaves the task where the caller keeps it.
 #[inline(always)]
 pub fn read_file(bytes: &[u8]) -> Result<Task, Refusal>
-    ensures { ReadWhole bytes.now result }
+    ensures read { ReadWhole bytes.now result }
+    ensures rest { Blank result }
 {
     let header = check_at(bytes, 0)?;
     if header.end != bytes.len() {

@@ -12,7 +12,7 @@ ghost use Rattle.sheet_head.specs.Reading.{plan_of};
 ghost use Rattle.sheet_answer.specs.Sheets.{ReadableSheet, call_of, printed_call, printed_sheet};
 ghost use Rattle.sheet_answer.specs.Running.{Runs, Small, lent_plan, sheet_in, AnswersSheet};
 
-use file_job::Task;
+use file_job::{Lists, Task};
 use model::{Job, Refusal, Settings};
 use sheet_head::{Call, Head};
 
@@ -104,9 +104,20 @@ pub fn answer_sheet(bytes: &[u8], at: usize, out: &mut [u8]) -> SheetRead
         return SheetRead::Bad(sheet_lines::print_refused(Refusal::File, out));
     };
     let file = head.end;
-    let Ok(task) = file_job::read_at(bytes, file) else {
+    let Ok(header) = file_job::check_at(bytes, file) else {
         return SheetRead::Bad(sheet_lines::print_refused(Refusal::File, out));
     };
+    // the task that `file_job::read_at` reads, but filled where it stays
+    let mut task = Task {
+        header,
+        lists: Lists {
+            vehicles: [0u32; 32],
+            stops: [0u32; 64],
+            distances: [0u32; 6400],
+            draws: [0u32; 1024],
+        },
+    };
+    file_job::fill_lists(bytes, file, header, &mut task.lists);
     let printed = run_sheet(&head, &task, out);
     SheetRead::Answered(task.header.end, printed)
 }
