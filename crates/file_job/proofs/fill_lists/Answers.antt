@@ -1,4 +1,3 @@
-use Rattle.std.proofs.Common.{refl}
 use native.Mathlib.Omega.{arith}
 use Rattle.file_job.proofs.Loading.{Sizes, sizes, vehicles-there, stops-there, distances-there, draws-there, lists-filled}
 use Rattle.file_job.proofs.fill_lists.Goals as goal
