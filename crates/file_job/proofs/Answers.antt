@@ -10,8 +10,9 @@ use Rattle.std.proofs.Common.{Result, Ok, Err}
 use Rattle.model.specs.declared.refusal.Refusal.{Refusal}
 use Rattle.model.specs.declared.refusal.Refusal.TheVariants.{File}
 use Rattle.file_job.specs.declared.header.Header.{Header}
+use Rattle.file_job.specs.declared.task.Lists.{Lists}
 use Rattle.file_job.specs.declared.task.Task as file
-use Rattle.file_job.specs.Reading.{task_of, CheckedAt, ReadAt, ReadWhole}
+use Rattle.file_job.specs.Reading.{task_of, CheckedAt, ListsFilled, ReadAt, ReadWhole}
 
 -- something follows the file
 pub not-whole : (bytes : List ℕ) (a : Result Header Refusal) → CheckedAt bytes 0 a → (h : Header) → a ≡ Ok h → (h.end ≡ length bytes → ⊥)
@@ -25,6 +26,13 @@ not-whole bytes a checked h e longer =
           let same : whole.0 ≡ T = same-task bytes 0 whole.0 T found.2 w.2 found.0 w.0 in
           longer (found.1 ∙ ap (λ U. 0 + length (file_of U)) same ∙ sym w.1),
     )
+
+-- what a file is checked for and then filled with is what is read at its position
+pub refused-at : (bytes : List ℕ) (at : ℕ) (why : Refusal) → CheckedAt bytes at (Err why) → ReadAt bytes at (Err why)
+refused-at bytes at why none = none
+
+pub filled-at : (bytes : List ℕ) (at : ℕ) (t : file.Task) (before : Lists) → ListsFilled bytes at t.header before t.lists → ReadAt bytes at (Ok t)
+filled-at bytes at t before f = f.there
 
 -- every readable task is read back from its written form
 pub read_back : (bytes : List ℕ) (a : Result file.Task Refusal) (T : Task) → ReadWhole bytes a → Accepted bytes T
