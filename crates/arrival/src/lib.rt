@@ -121,7 +121,8 @@ fn best_place(tariff: &Tariff, plan: &Plan, live: u64, stop: u32) -> Candidate
     found
 }
 
-// Writes the plan after the arrival of a stop, and returns what it costs with the stop live.
+// Writes the plan after the arrival of a stop, and returns what it costs with the stop live. It stays a call, so that its caller does little
+// with the leg table, which then stands there once.
 #[inline(never)]
 pub fn arrive(tariff: &Tariff, plan: &mut Plan, live: u64, stop: u32) -> f64
     requires { Arriving plan.old live stop }

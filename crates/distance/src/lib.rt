@@ -116,7 +116,7 @@ pub fn fill_table(network: &Network, legs: &mut Legs)
     }
 }
 
-// The leg table of a network. It is filled where the caller keeps it: so no frame has room for it twice, and it is not copied.
+// The leg table of a network, for a caller that does little with it: then it is filled where it stays, and not copied.
 #[inline(always)]
 pub fn legs_of(network: &Network) -> Legs
     requires { Limited network.now }

@@ -46,7 +46,7 @@ pub fn unfilled(prices: Prices) -> Tariff
     }
 }
 
-// What a job's plans are weighed by. Its table is filled where the caller keeps it, as that of `legs_of` is.
+// What a job's plans are weighed by, for a caller that does little with it: then its table is filled where it stays (see `unfilled`).
 #[inline(always)]
 pub fn tariff_of(job: &Job) -> Tariff
     requires { Limited job.now.network × Affordable job.now.prices }

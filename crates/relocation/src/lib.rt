@@ -44,7 +44,7 @@ fn change(new: u64, old: u64) -> i64
     (new as i64) - (old as i64)
 }
 
-// Moves a stop to a place of a van, and returns the change in cost.
+// Moves a stop to a place of a van, and returns the change in cost. It stays a call, as `arrival::arrive` does.
 #[inline(never)]
 pub fn move_stop(tariff: &Tariff, plan: &mut Plan, m: Move) -> i64
     requires { Movable plan.old m }
